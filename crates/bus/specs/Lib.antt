@@ -1,0 +1,5 @@
+pub mod Cell
+pub mod Memory
+pub mod Refusals
+pub mod Board
+pub mod Soundness

@@ -1,0 +1,23 @@
+// A bus that is lent is a bus.
+ghost use mathlib.Core.Path.{_≡_};
+ghost use mathlib.Core.List.{_∷_};
+ghost use denote.Ref.{now, name};
+use crate::Bus;
+use crate::address::PhysAddr;
+use crate::refusal::Refusal;
+
+pub impl<B: Bus> Bus for &mut B as ReferenceBus {
+    ghost byte = { λ s. B·Bus .byte (now s) };
+
+    ghost sound = { λ s. B·Bus .sound (now s) };
+
+    ghost layout = { λ s. name s ∷ B·Bus .layout (now s) };
+
+    fn read(&mut self, at: PhysAddr, width: u32) -> Result<u32, Refusal> {
+        (**self).read(at, width)
+    }
+
+    fn write(&mut self, at: PhysAddr, width: u32, value: u32) -> Result<(), Refusal> {
+        (**self).write(at, width, value)
+    }
+}

@@ -1,0 +1,88 @@
+-- What a write to a part over a list leaves.
+use mathlib.Core.Path.{_≡_, refl, sym, ap, _∙_, fun-ext}
+use mathlib.Core.Bool.{Bool, true, false, cond}
+use mathlib.Core.List.{List}
+use mathlib.Core.Logic.{⊎-elim}
+use Prim.Native.Nat.{ℕ, _+_, _-_, _%_, _≤_, _<_}
+use native.Mathlib.Omega.{arith}
+use lib.Dec.{leb}
+use lib.ListN.{length, getD}
+use Rattle.std.proofs.shelf.Ways.{tells}
+use Rattle.std.proofs.shelf.Tests.{cond-true, cond-false, cases-bool}
+use Rattle.std.specs.declared.result.Result.the-variants.{Ok, Err}
+use Rattle.std.specs.declared.option.Option.the-variants.{Some, None}
+use Rattle.bus.specs.Cell.{Cell, absent, writable}
+use Rattle.bus.specs.Memory.{Memory, aligned, within, byteOf, writeOf, answerOf, memoryAfter, put}
+use Rattle.bus.specs.Board.{cellsFrom, offsetIn}
+use Rattle.bus.proofs.Accesses.{within-bounds, stays-inside, Writable, write-writable}
+use Rattle.parts.specs.Parts.{byteCell, covered, spanCells}
+
+covered-even : (n l : ℕ) → n % 4 ≡ 0 → covered n l % 4 ≡ 0
+covered-even n l e = grind (arith, tells)
+
+-- what an offset that was found says
+found : (b n a i : ℕ) → offsetIn b n a ≡ Some i → (within b n a ≡ true) × (i ≡ a - b)
+found b n a i e = go (within b n a) refl
+  where
+    go : (t : Bool) → within b n a ≡ t → (within b n a ≡ true) × (i ≡ a - b)
+    go true u = (u, let h : Some (a - b) ≡ Some i = sym (cond-true (within b n a) (Some (a - b)) None u) ∙ e in cc)
+    go false u = let h : None ≡ Some i = sym (cond-false (within b n a) (Some (a - b)) None u) ∙ e in let z : _≡_ {A = ℕ} 0 1 = cc in absurd (omega arith)
+
+-- the cells of xs from b on, n of them, and an access that begins in them
+module _ (b n : ℕ) (xs : List ℕ) (a w v : ℕ) (even-base : b % 4 ≡ 0) (even-length : n % 4 ≡ 0) (fit : aligned a w ≡ true) (begins : within b n a ≡ true) where
+  inside : (x : ℕ) → within a w x ≡ true → within b n x ≡ true
+  inside x t = stays-inside b n a w x even-base even-length fit t begins
+
+  part-write : writeOf (cellsFrom b n (byteCell writable xs)) a w v ≡ Ok (put (cellsFrom b n (byteCell writable xs)) a w v)
+  part-write = write-writable (cellsFrom b n (byteCell writable xs)) a w v fit (λ x p q. (getD xs (x - b) 0 % 256, cond-true _ _ _ (inside x (grind (arith, tells)))))
+
+  part-written : (ys : List ℕ)
+      → ((k : ℕ) → getD ys k 0 ≡ cond (within (a - b) w k) (byteOf v (k - (a - b))) (getD xs k 0))
+      → cellsFrom b n (byteCell writable ys) ≡ put (cellsFrom b n (byteCell writable xs)) a w v
+  part-written ys h = fun-ext (λ x. ⊎-elim (named x) (other x) (cases-bool (within a w x)))
+    where
+      begin : (b ≤ a) × (a < b + n)
+      begin = within-bounds b n a begins
+
+      named : (x : ℕ) → within a w x ≡ true → cellsFrom b n (byteCell writable ys) x ≡ put (cellsFrom b n (byteCell writable xs)) a w v x
+      named x t =
+          let p : (a ≤ x) × (x < a + w) = within-bounds a w x t in
+          let q : within (a - b) w (x - b) ≡ true = grind (arith, tells) in
+          let k : (x - b) - (a - b) ≡ x - a = omega (arith, begin .0) in
+          let byte : getD ys (x - b) 0 % 256 ≡ byteOf v (x - a) = ap (λ y. y % 256) (h (x - b) ∙ cond-true _ _ _ q ∙ ap (byteOf v) k) ∙ omega arith in
+          cond-true _ _ _ (inside x t) ∙ ap writable byte ∙ sym (cond-true _ _ _ t)
+
+      other : (x : ℕ) → within a w x ≡ false → cellsFrom b n (byteCell writable ys) x ≡ put (cellsFrom b n (byteCell writable xs)) a w v x
+      other x t = go (within b n x) refl ∙ sym (cond-false _ _ _ t)
+        where
+          go : (u : Bool) → within b n x ≡ u → cellsFrom b n (byteCell writable ys) x ≡ cellsFrom b n (byteCell writable xs) x
+          go true e =
+              let p : (b ≤ x) × (x < b + n) = within-bounds b n x e in
+              let q : within (a - b) w (x - b) ≡ false = grind (arith, tells) in
+              ap (λ y. cond (within b n x) (writable (y % 256)) absent) (h (x - b) ∙ cond-false _ _ _ q)
+          go false e = cond-false _ _ _ e ∙ sym (cond-false _ _ _ e)
+
+-- a list under a span, and one after the low bytes of v were stored at the place i of an access
+module _
+    (b n : ℕ) (xs ys : List ℕ) (a w v i : ℕ) (even : (b % 4 ≡ 0) × (n % 4 ≡ 0)) (fit : true ≡ aligned a w)
+    (at-place : Some i ≡ offsetIn b (covered n (length xs)) a) (as-long : length ys ≡ length xs)
+    (stored : (k : ℕ) → getD ys k 0 ≡ cond (within i w k) (byteOf v (k - i)) (getD xs k 0))
+  where
+  place : (within b (covered n (length xs)) a ≡ true) × (i ≡ a - b)
+  place = found b (covered n (length xs)) a i (sym at-place)
+
+  done : writeOf (spanCells writable b n xs) a w v ≡ Ok (put (spanCells writable b n xs) a w v)
+  done = part-write b (covered n (length xs)) xs a w v (even .0) (covered-even n (length xs) (even .1)) (sym fit) (place .0)
+
+  span-answer : Ok tt ≡ answerOf (writeOf (spanCells writable b n xs) a w v)
+  span-answer = sym (ap answerOf done)
+
+  span-written : spanCells writable b n ys ≡ memoryAfter (spanCells writable b n xs) (writeOf (spanCells writable b n xs) a w v)
+  span-written =
+      ap (λ l. cellsFrom b (covered n l) (byteCell writable ys)) as-long
+      ∙ part-written b (covered n (length xs)) xs a w v (even .0) (covered-even n (length xs) (even .1)) (sym fit) (place .0) ys
+        (λ k. stored k ∙ ap (λ j. cond (within j w k) (byteOf v (k - j)) (getD xs k 0)) (place .1))
+      ∙ sym (ap (memoryAfter (spanCells writable b n xs)) done)
+
+  pub span-write : (Ok tt ≡ answerOf (writeOf (spanCells writable b n xs) a w v)) × (spanCells writable b n ys ≡ memoryAfter (spanCells writable b n xs) (writeOf (spanCells writable b n xs) a w v))
+  span-write = (span-answer, span-written)

@@ -1,0 +1,17 @@
+use mathlib.Core.Path.{_≡_, refl, sym, ap, _∙_}
+use native.Mathlib.Omega.{arith}
+use lib.ListN.{length}
+use Rattle.std.specs.declared.option.Option.the-variants.{Some}
+use Rattle.bus.specs.Board.{offsetIn}
+use Rattle.parts.specs.Parts.{covered}
+use Rattle.parts.proofs.Written.{span-write}
+use Rattle.parts.proofs.ports.PortsBus.write.Needs as need
+
+pub returns-in-Some : need.returns-in-Some
+returns-in-Some c =
+    let s = c .args .self .now in
+    let full : 64 ≡ length (s .cells) = omega arith in
+    let at-place : Some (c .in-Some .offset) ≡ offsetIn (s .span .base) (covered (s .span .length) (length (s .cells))) (c .args .at .0)
+                 = c .in-Some .ensures tt ∙ ap (λ n. offsetIn (s .span .base) (covered (s .span .length) n) (c .args .at .0)) full in
+    let done = span-write (s .span .base) (s .span .length) (s .cells) (c .store .last .memory) (c .args .at .0) (c .args .width) (c .args .value) (c .in-Some .offset) (s .span .even) (c .if-not-is-aligned .ensures tt) at-place (omega arith) (c .store .ensures) in
+    record { value = done .0; after = done .1; kept = refl }
