@@ -1,16 +1,18 @@
 -- What an aligned access meets, over any memory.
-use mathlib.Core.Path.{_≡_, refl, ap, _∙_}
+use mathlib.Core.Path.{_≡_, refl, sym, _∙_}
 use mathlib.Core.Bool.{Bool, true, false, cond, _&&_, _||_}
 use Prim.Native.Nat.{ℕ, zero, suc, _+_, _-_, _*_, _%_, _^_, _≤_, _<_}
 use native.Mathlib.Omega.{arith}
 use lib.Dec.{eqb, leb, ltb}
 use Rattle.std.proofs.shelf.Ways.{tells}
-use Rattle.std.proofs.shelf.Tests.{cond-true}
+use Rattle.std.proofs.shelf.Tests.{cond-true, cond-false}
+use Rattle.std.specs.declared.option.Option.the-variants.{Some, None}
 use Rattle.std.specs.declared.result.Result.{Result}
 use Rattle.std.specs.declared.result.Result.the-variants.{Ok, Err}
 use Rattle.bus.specs.declared.refusal.Refusal.{Refusal}
 use Rattle.bus.specs.declared.refusal.Refusal.the-variants.{Misaligned}
 use Rattle.bus.specs.Cell.{Cell, absent, fixed, writable}
+use Rattle.bus.specs.Board.{offsetIn}
 use Rattle.bus.specs.Memory.{Memory, isWidth, aligned, within, allPresent, noneFixed, valueAt, readOf, writeOf, put}
 
 pub within-bounds : (a n x : ℕ) → within a n x ≡ true → (a ≤ x) × (x < a + n)
@@ -23,6 +25,21 @@ module _ (b n a w x : ℕ) (even-base : b % 4 ≡ 0) (even-length : n % 4 ≡ 0)
 
   pub stays-outside : within b n a ≡ false → within b n x ≡ false
   stays-outside e = grind (arith, tells)
+
+-- what an offset that is found says
+pub offset-found : (b n a i : ℕ) → offsetIn b n a ≡ Some i → (within b n a ≡ true) × (i ≡ a - b)
+offset-found b n a i e = go (within b n a) refl
+  where
+    go : (t : Bool) → within b n a ≡ t → (within b n a ≡ true) × (i ≡ a - b)
+    go true u = (u, let h : Some (a - b) ≡ Some i = sym (cond-true (within b n a) (Some (a - b)) None u) ∙ e in cc)
+    go false u = let h : None ≡ Some i = sym (cond-false (within b n a) (Some (a - b)) None u) ∙ e in let z : _≡_ {A = ℕ} 0 1 = cc in absurd (omega arith)
+
+pub offset-none : (b n a : ℕ) → None ≡ offsetIn b n a → within b n a ≡ false
+offset-none b n a e = go (within b n a) refl
+  where
+    go : (t : Bool) → within b n a ≡ t → within b n a ≡ false
+    go true u = let h : None ≡ Some (a - b) = e ∙ cond-true (within b n a) (Some (a - b)) None u in let z : _≡_ {A = ℕ} 0 1 = cc in absurd (omega arith)
+    go false u = u
 
 -- memories that agree on the n addresses from a on
 abbrev pub Agree : Memory → Memory → ℕ → ℕ → Type 0

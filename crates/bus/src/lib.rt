@@ -12,6 +12,7 @@ pub mod span;
 pub mod reference;
 
 pub use access::is_aligned;
+pub use access::missing;
 pub use address::PhysAddr;
 pub use board::check_border;
 pub use board::check_range;

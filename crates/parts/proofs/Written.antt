@@ -14,19 +14,11 @@ use Rattle.std.specs.declared.option.Option.the-variants.{Some, None}
 use Rattle.bus.specs.Cell.{Cell, absent, writable}
 use Rattle.bus.specs.Memory.{Memory, aligned, within, byteOf, writeOf, answerOf, memoryAfter, put}
 use Rattle.bus.specs.Board.{cellsFrom, offsetIn}
-use Rattle.bus.proofs.Accesses.{within-bounds, stays-inside, Writable, write-writable}
+use Rattle.bus.proofs.Accesses.{within-bounds, stays-inside, write-writable, offset-found}
 use Rattle.parts.specs.Parts.{byteCell, covered, spanCells}
 
 covered-even : (n l : ℕ) → n % 4 ≡ 0 → covered n l % 4 ≡ 0
 covered-even n l e = grind (arith, tells)
-
--- what an offset that was found says
-found : (b n a i : ℕ) → offsetIn b n a ≡ Some i → (within b n a ≡ true) × (i ≡ a - b)
-found b n a i e = go (within b n a) refl
-  where
-    go : (t : Bool) → within b n a ≡ t → (within b n a ≡ true) × (i ≡ a - b)
-    go true u = (u, let h : Some (a - b) ≡ Some i = sym (cond-true (within b n a) (Some (a - b)) None u) ∙ e in cc)
-    go false u = let h : None ≡ Some i = sym (cond-false (within b n a) (Some (a - b)) None u) ∙ e in let z : _≡_ {A = ℕ} 0 1 = cc in absurd (omega arith)
 
 -- the cells of xs from b on, n of them, and an access that begins in them
 module _ (b n : ℕ) (xs : List ℕ) (a w v : ℕ) (even-base : b % 4 ≡ 0) (even-length : n % 4 ≡ 0) (fit : aligned a w ≡ true) (begins : within b n a ≡ true) where
@@ -69,7 +61,7 @@ module _
     (stored : (k : ℕ) → getD ys k 0 ≡ cond (within i w k) (byteOf v (k - i)) (getD xs k 0))
   where
   place : (within b (covered n (length xs)) a ≡ true) × (i ≡ a - b)
-  place = found b (covered n (length xs)) a i (sym at-place)
+  place = offset-found b (covered n (length xs)) a i (sym at-place)
 
   done : writeOf (spanCells writable b n xs) a w v ≡ Ok (put (spanCells writable b n xs) a w v)
   done = part-write b (covered n (length xs)) xs a w v (even .0) (covered-even n (length xs) (even .1)) (sym fit) (place .0)

@@ -1,0 +1,45 @@
+-- What a layer shows of the buses below it.
+use mathlib.Core.Bool.{cond}
+use Prim.Native.Nat.{ℕ, _+_, _%_, _^_}
+use lib.Dec.{eqb, ltb}
+use Rattle.bus.specs.declared.refusal.Refusal.{Refusal}
+use Rattle.bus.specs.declared.refusal.Refusal.the-variants.{Misaligned, Absent, Fixed}
+use Rattle.bus.specs.Cell.{Cell, absent, fixed, writable}
+use Rattle.bus.specs.Memory.{Memory, address, within}
+use Rattle.bus.specs.Board.{rangeCheck, borderCheck, nothing, whereAccepted, partCells}
+
+-- lo below c, and hi from there on
+abbrev pub sides : ℕ → Memory → Memory → Memory
+sides c lo hi a = cond (ltb a c) (lo a) (hi a)
+
+-- a split with its border at c
+abbrev pub splitCells : ℕ → Memory → Memory → Memory
+splitCells c lo hi = whereAccepted (borderCheck c) (sides c lo hi)
+
+-- a shift: m from its address 0 on, seen from b on for n bytes
+abbrev pub shiftCells : ℕ → ℕ → Memory → Memory
+shiftCells b n m = partCells b n m
+
+-- a refusal of the bus below, as it is seen b higher
+abbrev pub movedBy : ℕ → Refusal → Refusal
+movedBy b Misaligned = Misaligned
+movedBy b (Absent at) = Absent (address ((at .0 + b) % 2 ^ 32))
+movedBy b (Fixed at) = Fixed (address ((at .0 + b) % 2 ^ 32))
+
+-- what can no longer be written
+abbrev pub locked : Cell → Cell
+locked absent = absent
+locked (fixed b) = fixed b
+locked (writable b) = fixed b
+
+-- m, with the n cells from b on locked
+abbrev pub lockedFrom : ℕ → ℕ → Memory → Memory
+lockedFrom b n m a = cond (within b n a) (locked (m a)) (m a)
+
+-- a lock of the n bytes from b on
+abbrev pub lockCells : ℕ → ℕ → Memory → Memory
+lockCells b n m = whereAccepted (rangeCheck b n) (lockedFrom b n m)
+
+-- the same under a span that is made already: one of refused numbers covers nothing
+abbrev pub spanLock : ℕ → ℕ → Memory → Memory
+spanLock b n m = cond (eqb n 0) nothing (lockedFrom b n m)

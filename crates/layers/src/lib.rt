@@ -1,0 +1,11 @@
+// Layers over any bus.
+pub mod split;
+pub mod shift;
+pub mod lock;
+
+pub use lock::Lock;
+pub use lock::LockBus;
+pub use shift::Shift;
+pub use shift::ShiftBus;
+pub use split::Split;
+pub use split::SplitBus;
