@@ -1,5 +1,5 @@
 -- What an aligned access meets, over any memory.
-use mathlib.Core.Path.{_≡_, refl, sym, _∙_}
+use mathlib.Core.Path.{_≡_, refl, sym, ap, _∙_}
 use mathlib.Core.Bool.{Bool, true, false, cond, _&&_, _||_}
 use Prim.Native.Nat.{ℕ, zero, suc, _+_, _-_, _*_, _%_, _^_, _≤_, _<_}
 use native.Mathlib.Omega.{arith}
@@ -9,11 +9,12 @@ use Rattle.std.proofs.shelf.Tests.{cond-true, cond-false}
 use Rattle.std.specs.declared.option.Option.the-variants.{Some, None}
 use Rattle.std.specs.declared.result.Result.{Result}
 use Rattle.std.specs.declared.result.Result.the-variants.{Ok, Err}
+use Rattle.bus.specs.declared.address.PhysAddr.{PhysAddr}
 use Rattle.bus.specs.declared.refusal.Refusal.{Refusal}
-use Rattle.bus.specs.declared.refusal.Refusal.the-variants.{Misaligned}
+use Rattle.bus.specs.declared.refusal.Refusal.the-variants.{Misaligned, Absent, Fixed}
 use Rattle.bus.specs.Cell.{Cell, absent, fixed, writable}
 use Rattle.bus.specs.Board.{offsetIn}
-use Rattle.bus.specs.Memory.{Memory, isWidth, aligned, within, allPresent, noneFixed, valueAt, readOf, writeOf, put}
+use Rattle.bus.specs.Memory.{Memory, isWidth, aligned, within, isAbsent, isFixed, unlessAny, writeOf, answerOf, memoryAfter, put}
 
 pub within-bounds : (a n x : ℕ) → within a n x ≡ true → (a ≤ x) × (x < a + n)
 within-bounds a n x e = grind (arith, tells)
@@ -27,12 +28,12 @@ module _ (b n a w x : ℕ) (even-base : b % 4 ≡ 0) (even-length : n % 4 ≡ 0)
   stays-outside e = grind (arith, tells)
 
 -- what an offset that is found says
-pub offset-found : (b n a i : ℕ) → offsetIn b n a ≡ Some i → (within b n a ≡ true) × (i ≡ a - b)
+pub offset-found : (b n a i : ℕ) → Some i ≡ offsetIn b n a → (within b n a ≡ true) × (i ≡ a - b)
 offset-found b n a i e = go (within b n a) refl
   where
     go : (t : Bool) → within b n a ≡ t → (within b n a ≡ true) × (i ≡ a - b)
-    go true u = (u, let h : Some (a - b) ≡ Some i = sym (cond-true (within b n a) (Some (a - b)) None u) ∙ e in cc)
-    go false u = let h : None ≡ Some i = sym (cond-false (within b n a) (Some (a - b)) None u) ∙ e in let z : _≡_ {A = ℕ} 0 1 = cc in absurd (omega arith)
+    go true u = (u, let h : Some i ≡ Some (a - b) = e ∙ cond-true (within b n a) (Some (a - b)) None u in cc)
+    go false u = let h : Some i ≡ None = e ∙ cond-false (within b n a) (Some (a - b)) None u in let z : _≡_ {A = ℕ} 0 1 = cc in absurd (omega arith)
 
 pub offset-none : (b n a : ℕ) → None ≡ offsetIn b n a → within b n a ≡ false
 offset-none b n a e = go (within b n a) refl
@@ -41,51 +42,32 @@ offset-none b n a e = go (within b n a) refl
     go true u = let h : None ≡ Some (a - b) = e ∙ cond-true (within b n a) (Some (a - b)) None u in let z : _≡_ {A = ℕ} 0 1 = cc in absurd (omega arith)
     go false u = u
 
--- memories that agree on the n addresses from a on
-abbrev pub Agree : Memory → Memory → ℕ → ℕ → Type 0
-Agree m m′ a n = (x : ℕ) → a ≤ x → x < a + n → m x ≡ m′ x
+-- what a write answers, and what it leaves
+pub record Written (m : Memory) (a w v : ℕ) (r : Result (Unit {0}) Refusal) (n : Memory) : Type 0 where
+  pub answer : r ≡ answerOf (writeOf m a w v)
+  pub after : n ≡ memoryAfter m (writeOf m a w v)
 
-module _ (m m′ : Memory) where
-  later : (a n : ℕ) → Agree m m′ a (suc n) → Agree m m′ (suc a) n
-  later a n h x p q = h x (omega arith) (omega arith)
+pub written-by : (m n : Memory) (a w v : ℕ) (x : Result Memory Refusal) → writeOf m a w v ≡ x → n ≡ memoryAfter m x → Written m a w v (answerOf x) n
+written-by m n a w v x e q = record { answer = sym (ap answerOf e); after = q ∙ sym (ap (memoryAfter m) e) }
 
-  value-local : (a n : ℕ) → Agree m m′ a n → valueAt m a n ≡ valueAt m′ a n
-  value-local a zero h = refl
-  value-local a (suc n) h =
-      let here : m a ≡ m′ a = h a (omega arith) (omega arith) in
-      let rest : valueAt m (suc a) n ≡ valueAt m′ (suc a) n = value-local (suc a) n (later a n h) in
-      cc
-
-  pub present-local : {X : Type 0} (a n : ℕ) (r : Result X Refusal) → Agree m m′ a n → allPresent m a n r ≡ allPresent m′ a n r
-  present-local a zero r h = refl
-  present-local a (suc n) r h =
-      let here : m a ≡ m′ a = h a (omega arith) (omega arith) in
-      let rest : allPresent m (suc a) n r ≡ allPresent m′ (suc a) n r = present-local (suc a) n r (later a n h) in
-      cc
-
-  pub unfixed-local : {X : Type 0} (a n : ℕ) (r : Result X Refusal) → Agree m m′ a n → noneFixed m a n r ≡ noneFixed m′ a n r
-  unfixed-local a zero r h = refl
-  unfixed-local a (suc n) r h =
-      let here : m a ≡ m′ a = h a (omega arith) (omega arith) in
-      let rest : noneFixed m (suc a) n r ≡ noneFixed m′ (suc a) n r = unfixed-local (suc a) n r (later a n h) in
-      cc
+pub written-same : (m m′ n n′ : Memory) (a w v : ℕ) (r : Result (Unit {0}) Refusal) → m ≡ m′ → n′ ≡ n → Written m a w v r n → Written m′ a w v r n′
+written-same m m′ n n′ a w v r p q h = record { answer = h .answer ∙ ap (λ x. answerOf (writeOf x a w v)) p; after = q ∙ h .after ∙ ap (λ x. memoryAfter x (writeOf x a w v)) p }
 
 -- n cells from a on that can all be written
 abbrev pub Writable : Memory → ℕ → ℕ → Type 0
 Writable m a n = (x : ℕ) → a ≤ x → x < a + n → (b : ℕ) × (m x ≡ writable b)
 
 module _ (m : Memory) where
-  present-writable : {X : Type 0} (a n : ℕ) (r : Result X Refusal) → Writable m a n → allPresent m a n r ≡ r
-  present-writable a zero r h = refl
-  present-writable a (suc n) r h = rw (h a (omega arith) (omega arith) .1) (present-writable (suc a) n r (λ x p q. h x (omega arith) (omega arith)))
-
-  unfixed-writable : {X : Type 0} (a n : ℕ) (r : Result X Refusal) → Writable m a n → noneFixed m a n r ≡ r
-  unfixed-writable a zero r h = refl
-  unfixed-writable a (suc n) r h = rw (h a (omega arith) (omega arith) .1) (unfixed-writable (suc a) n r (λ x p q. h x (omega arith) (omega arith)))
+  unless-writable : {X : Type 0} (p : Cell → Bool) (refused : PhysAddr → Refusal) → ((b : ℕ) → p (writable b) ≡ false) → (a n : ℕ) (r : Result X Refusal) → Writable m a n → unlessAny p refused m a n r ≡ r
+  unless-writable p refused pass a zero r h = refl
+  unless-writable p refused pass a (suc n) r h =
+      let here = h a (omega arith) (omega arith) in
+      cond-false (p (m a)) _ _ (ap p (here .1) ∙ pass (here .0))
+      ∙ unless-writable p refused pass (suc a) n r (λ x l u. h x (omega arith) (omega arith))
 
   -- a write to them is done
   pub write-writable : (a w v : ℕ) → aligned a w ≡ true → Writable m a w → writeOf m a w v ≡ Ok (put m a w v)
   write-writable a w v fit h =
       cond-true (aligned a w) _ _ fit
-      ∙ present-writable a w (noneFixed m a w (Ok (put m a w v))) h
-      ∙ unfixed-writable a w (Ok (put m a w v)) h
+      ∙ unless-writable isAbsent Absent (λ b. refl) a w (unlessAny isFixed Fixed m a w (Ok (put m a w v))) h
+      ∙ unless-writable isFixed Fixed (λ b. refl) a w (Ok (put m a w v)) h

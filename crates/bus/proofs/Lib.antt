@@ -1,1 +1,2 @@
 pub mod Accesses
+pub mod Ruling

@@ -3,3 +3,4 @@ pub mod Memory
 pub mod Refusals
 pub mod Board
 pub mod Soundness
+pub mod Rules

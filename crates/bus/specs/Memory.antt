@@ -1,6 +1,6 @@
 -- What the bus means: what a read answers, and what a write answers and leaves, over any memory.
 use mathlib.Core.Path.{_≡_}
-use mathlib.Core.Bool.{Bool, cond, _&&_, _||_}
+use mathlib.Core.Bool.{Bool, true, false, cond, _&&_, _||_}
 use Prim.Native.Nat.{ℕ, zero, suc, _+_, _-_, _*_, _/_, _%_, _^_, _≤_, _<_}
 use lib.Dec.{eqb, leb, ltb}
 use Rattle.std.specs.declared.result.Result.{Result}
@@ -38,26 +38,20 @@ aligned a w = isWidth w && eqb (a % w) 0
 abbrev pub within : ℕ → ℕ → ℕ → Bool
 within a n x = leb a x && ltb x (a + n)
 
--- r, unless the cell at a is absent
-abbrev pub ifPresent : {X : Type 0} → Cell → ℕ → Result X Refusal → Result X Refusal
-ifPresent absent a r = Err (Absent (address a))
-ifPresent (fixed b) a r = r
-ifPresent (writable b) a r = r
+abbrev pub isAbsent : Cell → Bool
+isAbsent absent = true
+isAbsent (fixed b) = false
+isAbsent (writable b) = false
 
--- r, unless the cell at a is fixed
-abbrev pub ifUnfixed : {X : Type 0} → Cell → ℕ → Result X Refusal → Result X Refusal
-ifUnfixed absent a r = r
-ifUnfixed (fixed b) a r = Err (Fixed (address a))
-ifUnfixed (writable b) a r = r
+abbrev pub isFixed : Cell → Bool
+isFixed absent = false
+isFixed (fixed b) = true
+isFixed (writable b) = false
 
--- r, unless one of the n cells from a on is absent, or fixed: then the lowest such is refused
-abbrev pub allPresent : {X : Type 0} → Memory → ℕ → ℕ → Result X Refusal → Result X Refusal
-allPresent m a zero r = r
-allPresent m a (suc n) r = ifPresent (m a) a (allPresent m (suc a) n r)
-
-abbrev pub noneFixed : {X : Type 0} → Memory → ℕ → ℕ → Result X Refusal → Result X Refusal
-noneFixed m a zero r = r
-noneFixed m a (suc n) r = ifUnfixed (m a) a (noneFixed m (suc a) n r)
+-- r, unless p is true of one of the n cells from a on: then the lowest such is refused
+abbrev pub unlessAny : {X : Type 0} → (Cell → Bool) → (PhysAddr → Refusal) → Memory → ℕ → ℕ → Result X Refusal → Result X Refusal
+unlessAny p refused m a zero r = r
+unlessAny p refused m a (suc n) r = cond (p (m a)) (Err (refused (address a))) (unlessAny p refused m (suc a) n r)
 
 -- the little-endian number in the n cells from a on
 abbrev pub valueAt : Memory → ℕ → ℕ → ℕ
@@ -65,7 +59,7 @@ valueAt m a zero = 0
 valueAt m a (suc n) = held (m a) + 256 * valueAt m (suc a) n
 
 abbrev pub readOf : Memory → ℕ → ℕ → Result ℕ Refusal
-readOf m a w = cond (aligned a w) (allPresent m a w (Ok (valueAt m a w))) (Err Misaligned)
+readOf m a w = cond (aligned a w) (unlessAny isAbsent Absent m a w (Ok (valueAt m a w))) (Err Misaligned)
 
 -- the k-th byte of a number, the lowest first
 abbrev pub byteOf : ℕ → ℕ → ℕ
@@ -77,7 +71,7 @@ put m a w v x = cond (within a w x) (writable (byteOf v (x - a))) (m x)
 
 -- the memory that a write makes, or its refusal
 abbrev pub writeOf : Memory → ℕ → ℕ → ℕ → Result Memory Refusal
-writeOf m a w v = cond (aligned a w) (allPresent m a w (noneFixed m a w (Ok (put m a w v)))) (Err Misaligned)
+writeOf m a w v = cond (aligned a w) (unlessAny isAbsent Absent m a w (unlessAny isFixed Fixed m a w (Ok (put m a w v)))) (Err Misaligned)
 
 abbrev pub answerOf : Result Memory Refusal → Result (Unit {0}) Refusal
 answerOf (Ok m) = Ok tt

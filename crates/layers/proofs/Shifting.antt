@@ -7,19 +7,20 @@ use lib.Dec.{eqb, leb, ltb}
 use Rattle.std.proofs.shelf.Ways.{tells}
 use Rattle.std.proofs.shelf.Tests.{cond-true, cond-false}
 use Rattle.std.specs.declared.option.Option.the-variants.{Some}
-use Rattle.std.specs.declared.result.Result.the-variants.{Ok, Err}
+use Rattle.std.specs.declared.result.Result.{Result}
+use Rattle.std.specs.declared.result.Result.the-variants.{Err}
 use Rattle.bus.specs.declared.refusal.Refusal.{Refusal}
 use Rattle.bus.specs.declared.refusal.Refusal.the-variants.{Absent, Fixed}
 use Rattle.bus.specs.Cell.{absent, writable}
 use Rattle.bus.specs.Memory.{Memory, address, aligned, within, byteOf, readOf, writeOf, answerOf, memoryAfter, put}
 use Rattle.bus.specs.Board.{cellsFrom, offsetIn}
-use Rattle.bus.proofs.Accesses.{within-bounds, stays-inside, offset-found}
+use Rattle.bus.proofs.Accesses.{within-bounds, stays-inside, offset-found, Written}
 use Rattle.layers.specs.Layers.{movedBy}
 use Rattle.layers.proofs.Views.{seen, Shown, AllShown, read-seen, write-seen, seen-answer, seen-after}
 
 module _ (f : Memory) (b n a w k : ℕ) (even : (b % 4 ≡ 0) × (n % 4 ≡ 0)) (inside : b + n ≤ 2 ^ 32) (offset : Some k ≡ offsetIn b n a) where
   begins : (within b n a ≡ true) × (k ≡ a - b)
-  begins = offset-found b n a k (sym offset)
+  begins = offset-found b n a k offset
 
   starts : (b ≤ a) × (a < b + n)
   starts = within-bounds b n a (begins .0)
@@ -68,24 +69,18 @@ module _ (f : Memory) (b n a w k : ℕ) (even : (b % 4 ≡ 0) × (n % 4 ≡ 0)) 
   shift-read : readOf (cellsFrom b n f) a w ≡ seen (movedBy b) (λ v. v) (readOf f k w)
   shift-read = read-seen (cellsFrom b n f) f (movedBy b) a k w fits-alike refl shown
 
-  pub read-value : (v : ℕ) → Ok v ≡ readOf f k w → Ok v ≡ readOf (cellsFrom b n f) a w
-  read-value v e = ap (seen (movedBy b) (λ x. x)) e ∙ sym shift-read
-
-  pub read-refusal : (e e′ : Refusal) → Err e ≡ readOf f k w → e′ ≡ movedBy b e → Err e′ ≡ readOf (cellsFrom b n f) a w
-  read-refusal e e′ p q = ap Err q ∙ ap (seen (movedBy b) (λ x. x)) p ∙ sym shift-read
+  pub read-shown : (r : Result ℕ Refusal) → r ≡ readOf f k w → seen (movedBy b) (λ v. v) r ≡ readOf (cellsFrom b n f) a w
+  read-shown r e = ap (seen (movedBy b) (λ v. v)) e ∙ sym shift-read
 
   module _ (v : ℕ) where
     shift-write : writeOf (cellsFrom b n f) a w v ≡ seen (movedBy b) (cellsFrom b n) (writeOf f k w v)
     shift-write = write-seen (cellsFrom b n f) f (movedBy b) a k w fits-alike refl shown (cellsFrom b n) v (puts v)
 
-    shift-answer : answerOf (writeOf (cellsFrom b n f) a w v) ≡ seen (movedBy b) (λ u. u) (answerOf (writeOf f k w v))
-    shift-answer = ap answerOf shift-write ∙ seen-answer (movedBy b) (cellsFrom b n) (writeOf f k w v)
+    pub written-shown : (r : Result (Unit {0}) Refusal) (g : Memory) → Written f k w v r g → Written (cellsFrom b n f) a w v (seen (movedBy b) (λ u. u) r) (cellsFrom b n g)
+    written-shown r g h = record {
+      answer = ap (seen (movedBy b) (λ u. u)) (h .answer) ∙ sym (ap answerOf shift-write ∙ seen-answer (movedBy b) (cellsFrom b n) (writeOf f k w v));
+      after = ap (cellsFrom b n) (h .after) ∙ sym (ap (memoryAfter (cellsFrom b n f)) shift-write ∙ seen-after (movedBy b) (cellsFrom b n) f (writeOf f k w v)) }
 
-    pub write-done : Ok tt ≡ answerOf (writeOf f k w v) → Ok tt ≡ answerOf (writeOf (cellsFrom b n f) a w v)
-    write-done e = ap (seen (movedBy b) (λ u. u)) e ∙ sym shift-answer
-
-    pub write-refusal : (e e′ : Refusal) → Err e ≡ answerOf (writeOf f k w v) → e′ ≡ movedBy b e → Err e′ ≡ answerOf (writeOf (cellsFrom b n f) a w v)
-    write-refusal e e′ p q = ap Err q ∙ ap (seen (movedBy b) (λ u. u)) p ∙ sym shift-answer
-
-    pub write-after : (g : Memory) → g ≡ memoryAfter f (writeOf f k w v) → cellsFrom b n g ≡ memoryAfter (cellsFrom b n f) (writeOf (cellsFrom b n f) a w v)
-    write-after g e = ap (cellsFrom b n) e ∙ sym (ap (memoryAfter (cellsFrom b n f)) shift-write ∙ seen-after (movedBy b) (cellsFrom b n) f (writeOf f k w v))
+-- the refusal that the layer gives on, where its base is read back from its span
+pub renamed : {X : Type 0} (b b′ : ℕ) (e e′ : Refusal) → e′ ≡ movedBy b′ e → b′ ≡ b → _≡_ {A = Result X Refusal} (Err e′) (seen {X = X} (movedBy b) (λ x. x) (Err e))
+renamed b b′ e e′ p q = ap Err (p ∙ ap (λ x. movedBy x e) q)

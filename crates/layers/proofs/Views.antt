@@ -8,10 +8,12 @@ use Rattle.std.proofs.shelf.Ways.{tells}
 use Rattle.std.proofs.shelf.Tests.{cond-true, cond-false}
 use Rattle.std.specs.declared.result.Result.{Result}
 use Rattle.std.specs.declared.result.Result.the-variants.{Ok, Err}
+use Rattle.bus.specs.declared.address.PhysAddr.{PhysAddr}
 use Rattle.bus.specs.declared.refusal.Refusal.{Refusal}
 use Rattle.bus.specs.declared.refusal.Refusal.the-variants.{Misaligned, Absent, Fixed}
-use Rattle.bus.specs.Cell.{Cell, absent, fixed, writable}
-use Rattle.bus.specs.Memory.{Memory, address, held, aligned, within, byteOf, ifPresent, ifUnfixed, allPresent, noneFixed, valueAt, readOf, writeOf, answerOf, memoryAfter, put}
+use Rattle.bus.specs.Cell.{Cell}
+use Rattle.bus.specs.Memory.{Memory, address, held, aligned, within, byteOf, isAbsent, isFixed, unlessAny, valueAt, readOf, writeOf, answerOf, memoryAfter, put}
+use Rattle.bus.proofs.Accesses.{Written}
 
 -- an answer of the bus below, as the layer gives it on
 abbrev pub seen : {X Y : Type 0} → (Refusal → Refusal) → (X → Y) → Result X Refusal → Result Y Refusal
@@ -36,15 +38,9 @@ pub record Shown (m f : Memory) (named : Refusal → Refusal) (a k : ℕ) : Type
   pub missing : Absent (address a) ≡ named (Absent (address k))
   pub kept : Fixed (address a) ≡ named (Fixed (address k))
 
-present-cell : {X Y : Type 0} (named : Refusal → Refusal) (up : X → Y) (c : Cell) (a k : ℕ) (r : Result X Refusal) → Absent (address a) ≡ named (Absent (address k)) → ifPresent c a (seen named up r) ≡ seen named up (ifPresent c k r)
-present-cell named up absent a k r e = ap Err e
-present-cell named up (fixed v) a k r e = refl
-present-cell named up (writable v) a k r e = refl
-
-unfixed-cell : {X Y : Type 0} (named : Refusal → Refusal) (up : X → Y) (c : Cell) (a k : ℕ) (r : Result X Refusal) → Fixed (address a) ≡ named (Fixed (address k)) → ifUnfixed c a (seen named up r) ≡ seen named up (ifUnfixed c k r)
-unfixed-cell named up absent a k r e = refl
-unfixed-cell named up (fixed v) a k r e = ap Err e
-unfixed-cell named up (writable v) a k r e = refl
+tested-cell : {X Y : Type 0} (named : Refusal → Refusal) (up : X → Y) (t : Bool) (e d : Refusal) (r : Result X Refusal) → e ≡ named d → cond t (Err e) (seen named up r) ≡ seen named up (cond t (Err d) r)
+tested-cell named up true e d r q = ap Err q
+tested-cell named up false e d r q = refl
 
 module _ (m f : Memory) (named : Refusal → Refusal) where
   -- the n cells from a on are those of f from k on
@@ -67,17 +63,18 @@ module _ (m f : Memory) (named : Refusal → Refusal) where
   value-shown a k zero h = refl
   value-shown a k (suc n) h = ap₂ (λ c v. held c + 256 * v) (first a k n h .cell) (value-shown (suc a) (suc k) n (later a k n h))
 
-  present-shown : {X Y : Type 0} (up : X → Y) (a k n : ℕ) (r : Result X Refusal) → AllShown a k n → allPresent m a n (seen named up r) ≡ seen named up (allPresent f k n r)
-  present-shown up a k zero r h = refl
-  present-shown up a k (suc n) r h =
-      ap₂ (λ c t. ifPresent c a t) (first a k n h .cell) (present-shown up (suc a) (suc k) n r (later a k n h))
-      ∙ present-cell named up (f k) a k (allPresent f (suc k) n r) (first a k n h .missing)
+  tested-shown : {X Y : Type 0} (up : X → Y) (p : Cell → Bool) (refused : PhysAddr → Refusal) (pick : (a k : ℕ) → Shown m f named a k → refused (address a) ≡ named (refused (address k)))
+    → (a k n : ℕ) (r : Result X Refusal) → AllShown a k n → unlessAny p refused m a n (seen named up r) ≡ seen named up (unlessAny p refused f k n r)
+  tested-shown up p refused pick a k zero r h = refl
+  tested-shown up p refused pick a k (suc n) r h =
+      ap₂ (λ c t. cond (p c) (Err (refused (address a))) t) (first a k n h .cell) (tested-shown up p refused pick (suc a) (suc k) n r (later a k n h))
+      ∙ tested-cell named up (p (f k)) (refused (address a)) (refused (address k)) (unlessAny p refused f (suc k) n r) (pick a k (first a k n h))
 
-  unfixed-shown : {X Y : Type 0} (up : X → Y) (a k n : ℕ) (r : Result X Refusal) → AllShown a k n → noneFixed m a n (seen named up r) ≡ seen named up (noneFixed f k n r)
-  unfixed-shown up a k zero r h = refl
-  unfixed-shown up a k (suc n) r h =
-      ap₂ (λ c t. ifUnfixed c a t) (first a k n h .cell) (unfixed-shown up (suc a) (suc k) n r (later a k n h))
-      ∙ unfixed-cell named up (f k) a k (noneFixed f (suc k) n r) (first a k n h .kept)
+  present-shown : {X Y : Type 0} (up : X → Y) (a k n : ℕ) (r : Result X Refusal) → AllShown a k n → unlessAny isAbsent Absent m a n (seen named up r) ≡ seen named up (unlessAny isAbsent Absent f k n r)
+  present-shown up a k n r h = tested-shown up isAbsent Absent (λ x y s. s .missing) a k n r h
+
+  unfixed-shown : {X Y : Type 0} (up : X → Y) (a k n : ℕ) (r : Result X Refusal) → AllShown a k n → unlessAny isFixed Fixed m a n (seen named up r) ≡ seen named up (unlessAny isFixed Fixed f k n r)
+  unfixed-shown up a k n r h = tested-shown up isFixed Fixed (λ x y s. s .kept) a k n r h
 
   module _ (a k w : ℕ) (fits-alike : aligned a w ≡ aligned k w) (misfit : Misaligned ≡ named Misaligned) (shown : aligned a w ≡ true → AllShown a k w) where
     pub read-seen : readOf m a w ≡ seen named (λ v. v) (readOf f k w)
@@ -86,7 +83,7 @@ module _ (m f : Memory) (named : Refusal → Refusal) where
         go : (t : Bool) → aligned a w ≡ t → readOf m a w ≡ seen named (λ v. v) (readOf f k w)
         go true e =
             cond-true (aligned a w) _ _ e
-            ∙ ap (λ v. allPresent m a w (Ok v)) (value-shown a k w (shown e))
+            ∙ ap (λ v. unlessAny isAbsent Absent m a w (Ok v)) (value-shown a k w (shown e))
             ∙ present-shown (λ v. v) a k w (Ok (valueAt f k w)) (shown e)
             ∙ sym (ap (seen named (λ v. v)) (cond-true (aligned k w) _ _ (sym fits-alike ∙ e)))
         go false e =
@@ -100,9 +97,9 @@ module _ (m f : Memory) (named : Refusal → Refusal) where
         go : (t : Bool) → aligned a w ≡ t → writeOf m a w v ≡ seen named up (writeOf f k w v)
         go true e =
             cond-true (aligned a w) _ _ e
-            ∙ ap (λ n. allPresent m a w (noneFixed m a w (Ok n))) (sym (puts e))
-            ∙ ap (allPresent m a w) (unfixed-shown up a k w (Ok (put f k w v)) (shown e))
-            ∙ present-shown up a k w (noneFixed f k w (Ok (put f k w v))) (shown e)
+            ∙ ap (λ n. unlessAny isAbsent Absent m a w (unlessAny isFixed Fixed m a w (Ok n))) (sym (puts e))
+            ∙ ap (unlessAny isAbsent Absent m a w) (unfixed-shown up a k w (Ok (put f k w v)) (shown e))
+            ∙ present-shown up a k w (unlessAny isFixed Fixed f k w (Ok (put f k w v))) (shown e)
             ∙ sym (ap (seen named up) (cond-true (aligned k w) _ _ (sym fits-alike ∙ e)))
         go false e =
             cond-false (aligned a w) _ _ e
@@ -129,8 +126,7 @@ module _ (t : ℕ → Cell → Cell) (f : Memory) (a w v : ℕ) (as-is : aligned
   write-over : writeOf (over f) a w v ≡ seen (λ e. e) over (writeOf f a w v)
   write-over = write-seen (over f) f (λ e. e) a a w refl refl shown over v puts
 
-  pub answer-over : answerOf (writeOf f a w v) ≡ answerOf (writeOf (over f) a w v)
-  answer-over = sym (ap answerOf write-over ∙ seen-answer (λ e. e) over (writeOf f a w v) ∙ seen-same (answerOf (writeOf f a w v)))
-
-  pub after-over : over (memoryAfter f (writeOf f a w v)) ≡ memoryAfter (over f) (writeOf (over f) a w v)
-  after-over = sym (ap (memoryAfter (over f)) write-over ∙ seen-after (λ e. e) over f (writeOf f a w v))
+  pub written-over : (r : Result (Unit {0}) Refusal) (n : Memory) → Written f a w v r n → Written (over f) a w v r (over n)
+  written-over r n h = record {
+    answer = h .answer ∙ sym (ap answerOf write-over ∙ seen-answer (λ e. e) over (writeOf f a w v) ∙ seen-same (answerOf (writeOf f a w v)));
+    after = ap over (h .after) ∙ sym (ap (memoryAfter (over f)) write-over ∙ seen-after (λ e. e) over f (writeOf f a w v)) }

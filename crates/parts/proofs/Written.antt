@@ -12,9 +12,9 @@ use Rattle.std.proofs.shelf.Tests.{cond-true, cond-false, cases-bool}
 use Rattle.std.specs.declared.result.Result.the-variants.{Ok, Err}
 use Rattle.std.specs.declared.option.Option.the-variants.{Some, None}
 use Rattle.bus.specs.Cell.{Cell, absent, writable}
-use Rattle.bus.specs.Memory.{Memory, aligned, within, byteOf, writeOf, answerOf, memoryAfter, put}
+use Rattle.bus.specs.Memory.{Memory, aligned, within, byteOf, writeOf, put}
 use Rattle.bus.specs.Board.{cellsFrom, offsetIn}
-use Rattle.bus.proofs.Accesses.{within-bounds, stays-inside, write-writable, offset-found}
+use Rattle.bus.proofs.Accesses.{within-bounds, stays-inside, write-writable, offset-found, Written, written-by}
 use Rattle.parts.specs.Parts.{byteCell, covered, spanCells}
 
 covered-even : (n l : ℕ) → n % 4 ≡ 0 → covered n l % 4 ≡ 0
@@ -61,20 +61,14 @@ module _
     (stored : (k : ℕ) → getD ys k 0 ≡ cond (within i w k) (byteOf v (k - i)) (getD xs k 0))
   where
   place : (within b (covered n (length xs)) a ≡ true) × (i ≡ a - b)
-  place = offset-found b (covered n (length xs)) a i (sym at-place)
+  place = offset-found b (covered n (length xs)) a i at-place
 
   done : writeOf (spanCells writable b n xs) a w v ≡ Ok (put (spanCells writable b n xs) a w v)
   done = part-write b (covered n (length xs)) xs a w v (even .0) (covered-even n (length xs) (even .1)) (sym fit) (place .0)
 
-  span-answer : Ok tt ≡ answerOf (writeOf (spanCells writable b n xs) a w v)
-  span-answer = sym (ap answerOf done)
-
-  span-written : spanCells writable b n ys ≡ memoryAfter (spanCells writable b n xs) (writeOf (spanCells writable b n xs) a w v)
-  span-written =
-      ap (λ l. cellsFrom b (covered n l) (byteCell writable ys)) as-long
+  pub span-write : Written (spanCells writable b n xs) a w v (Ok tt) (spanCells writable b n ys)
+  span-write =
+      written-by (spanCells writable b n xs) (spanCells writable b n ys) a w v (Ok (put (spanCells writable b n xs) a w v)) done
+      (ap (λ l. cellsFrom b (covered n l) (byteCell writable ys)) as-long
       ∙ part-written b (covered n (length xs)) xs a w v (even .0) (covered-even n (length xs) (even .1)) (sym fit) (place .0) ys
-        (λ k. stored k ∙ ap (λ j. cond (within j w k) (byteOf v (k - j)) (getD xs k 0)) (place .1))
-      ∙ sym (ap (memoryAfter (spanCells writable b n xs)) done)
-
-  pub span-write : (Ok tt ≡ answerOf (writeOf (spanCells writable b n xs) a w v)) × (spanCells writable b n ys ≡ memoryAfter (spanCells writable b n xs) (writeOf (spanCells writable b n xs) a w v))
-  span-write = (span-answer, span-written)
+        (λ k. stored k ∙ ap (λ j. cond (within j w k) (byteOf v (k - j)) (getD xs k 0)) (place .1)))

@@ -8,7 +8,7 @@ pub returns : need.returns
 returns g c =
     let s = c .args .self .now in
     record {
-      value = c .read .ensures .value ∙ lock-read (s .span .base) (s .span .length) (λ e. c .if-length-eq0 .left (c .length .ensures ∙ e)) (g .B·Bus .byte (s .inner)) (c .args .at .0) (c .args .width);
+      value = lock-read (s .span .base) (s .span .length) (λ e. c .if-length-eq0 .left (c .length .ensures ∙ e)) (g .B·Bus .byte (s .inner)) (c .args .at .0) (c .args .width) (c .read .result) (c .read .ensures .value);
       same = ap (spanLock (s .span .base) (s .span .length)) (c .read .ensures .same);
       kept = ap (λ l. s .span .base ∷ s .span .length ∷ l) (c .read .ensures .kept);
     }

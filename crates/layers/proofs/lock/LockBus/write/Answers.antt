@@ -1,25 +1,25 @@
 use mathlib.Core.List.{_∷_}
 use mathlib.Core.Path.{ap, _∙_}
-use Rattle.bus.proofs.Accesses.{offset-none}
-use Rattle.layers.proofs.Locking.{refused-answer, refused-after, outside-answer, outside-after}
+use Rattle.bus.proofs.Accesses.{offset-found, offset-none}
+use Rattle.layers.proofs.Locking.{inside-write, unread-write, outside-write}
 use Rattle.layers.proofs.lock.LockBus.write.Needs as need
+
+pub returns-in-Ok : need.returns-in-Ok
+returns-in-Ok g c =
+    let s = c .args .self .now in
+    let inside = offset-found (s .span .base) (s .span .length) (c .args .at .0) (c .in-Some .field-0) (c .in-Some .ensures tt) .0 in
+    let written = inside-write (s .span .base) (s .span .length) (λ e. c .if-length-eq0 .left (c .length .ensures ∙ e)) (g .B·Bus .byte (s .inner)) (c .args .at .0) (c .args .width) (c .args .value) (c .in-Ok .field-0) (c .in-Ok .ensures tt .value) inside (g .B·Bus .byte (c .read .last .self)) (c .read .ensures .same) in
+    record { value = written .answer; after = written .after; kept = ap (λ l. s .span .base ∷ s .span .length ∷ l) (c .read .ensures .kept) }
 
 pub returns-in-Err : need.returns-in-Err
 returns-in-Err g c =
     let s = c .args .self .now in
-    let refused = c .in-Err .ensures tt .value in
-    record {
-      value = refused-answer (s .span .base) (s .span .length) (λ e. c .if-length-eq0 .left (c .length .ensures ∙ e)) (g .B·Bus .byte (s .inner)) (c .args .at .0) (c .args .width) (c .args .value) (c .in-Err .refusal) refused;
-      after = refused-after (s .span .base) (s .span .length) (λ e. c .if-length-eq0 .left (c .length .ensures ∙ e)) (g .B·Bus .byte (s .inner)) (c .args .at .0) (c .args .width) (c .args .value) (c .in-Err .refusal) (g .B·Bus .byte (c .read .last .self)) refused (c .read .ensures .same);
-      kept = ap (λ l. s .span .base ∷ s .span .length ∷ l) (c .read .ensures .kept);
-    }
+    let written = unread-write (s .span .base) (s .span .length) (λ e. c .if-length-eq0 .left (c .length .ensures ∙ e)) (g .B·Bus .byte (s .inner)) (c .args .at .0) (c .args .width) (c .args .value) (c .in-Err .refusal) (g .B·Bus .byte (c .read .last .self)) (c .read .ensures .same) (c .in-Err .ensures tt .value) in
+    record { value = written .answer; after = written .after; kept = ap (λ l. s .span .base ∷ s .span .length ∷ l) (c .read .ensures .kept) }
 
 pub returns-in-None : need.returns-in-None
 returns-in-None g c =
     let s = c .args .self .now in
     let outside = offset-none (s .span .base) (s .span .length) (c .args .at .0) (c .in-None .ensures tt) in
-    record {
-      value = c .write .ensures .value ∙ outside-answer (s .span .base) (s .span .length) (λ e. c .if-length-eq0 .left (c .length .ensures ∙ e)) (g .B·Bus .byte (s .inner)) (c .args .at .0) (c .args .width) (c .args .value) (s .span .even) outside;
-      after = outside-after (s .span .base) (s .span .length) (λ e. c .if-length-eq0 .left (c .length .ensures ∙ e)) (g .B·Bus .byte (s .inner)) (c .args .at .0) (c .args .width) (c .args .value) (s .span .even) outside (g .B·Bus .byte (c .write .last .self)) (c .write .ensures .after);
-      kept = ap (λ l. s .span .base ∷ s .span .length ∷ l) (c .write .ensures .kept);
-    }
+    let written = outside-write (s .span .base) (s .span .length) (λ e. c .if-length-eq0 .left (c .length .ensures ∙ e)) (g .B·Bus .byte (s .inner)) (c .args .at .0) (c .args .width) (c .args .value) (s .span .even) outside (c .write .result) (g .B·Bus .byte (c .write .last .self)) (record { answer = c .write .ensures .value; after = c .write .ensures .after }) in
+    record { value = written .answer; after = written .after; kept = ap (λ l. s .span .base ∷ s .span .length ∷ l) (c .write .ensures .kept) }

@@ -6,4 +6,4 @@ pub returns-in-Some : need.returns-in-Some
 returns-in-Some c =
     let s = c .args .self .now in
     let done = span-write (s .span .base) (s .span .length) (s .memory .now) (c .store .last .memory) (c .args .at .0) (c .args .width) (c .args .value) (c .in-Some .offset) (s .span .even) (c .if-not-is-aligned .ensures tt) (c .in-Some .ensures tt) (c .store .kept .memory) (c .store .ensures) in
-    record { value = done .0; after = done .1; kept = refl }
+    record { value = done .answer; after = done .after; kept = refl }

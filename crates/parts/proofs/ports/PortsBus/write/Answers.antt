@@ -14,4 +14,4 @@ returns-in-Some c =
     let at-place : Some (c .in-Some .offset) ≡ offsetIn (s .span .base) (covered (s .span .length) (length (s .cells))) (c .args .at .0)
                  = c .in-Some .ensures tt ∙ ap (λ n. offsetIn (s .span .base) (covered (s .span .length) n) (c .args .at .0)) full in
     let done = span-write (s .span .base) (s .span .length) (s .cells) (c .store .last .memory) (c .args .at .0) (c .args .width) (c .args .value) (c .in-Some .offset) (s .span .even) (c .if-not-is-aligned .ensures tt) at-place (omega arith) (c .store .ensures) in
-    record { value = done .0; after = done .1; kept = refl }
+    record { value = done .answer; after = done .after; kept = refl }
