@@ -6,7 +6,8 @@ use mathlib.Core.Logic.{⊎-elim}
 use Prim.Native.Nat.{ℕ, _+_, _-_, _%_, _≤_, _<_}
 use native.Mathlib.Omega.{arith}
 use lib.Dec.{leb}
-use lib.ListN.{length, getD}
+use lib.ListN.{length, getD, drop}
+use Rattle.std.proofs.shelf.Lists.{same-lists, length-drop, getD-drop, getD-default}
 use Rattle.std.proofs.shelf.Ways.{tells}
 use Rattle.std.proofs.shelf.Tests.{cond-true, cond-false, cases-bool}
 use Rattle.std.specs.declared.result.Result.the-variants.{Ok, Err}
@@ -19,6 +20,16 @@ use Rattle.parts.specs.Parts.{byteCell, covered, spanCells}
 
 covered-even : (n l : ℕ) → n % 4 ≡ 0 → covered n l % 4 ≡ 0
 covered-even n l e = grind (arith, tells)
+
+covered-most : (n l : ℕ) → covered n l ≤ n
+covered-most n l = grind (arith, tells)
+
+-- an access has a last byte
+wide : (a w : ℕ) → aligned a w ≡ true → 0 < w
+wide a w fit = grind (arith, tells)
+
+last-named : (a w : ℕ) → aligned a w ≡ true → within a w (a + w - 1) ≡ true
+last-named a w fit = let some = wide a w fit in grind (arith, tells)
 
 -- the cells of xs from b on, n of them, and an access that begins in them
 module _ (b n : ℕ) (xs : List ℕ) (a w v : ℕ) (even-base : b % 4 ≡ 0) (even-length : n % 4 ≡ 0) (fit : aligned a w ≡ true) (begins : within b n a ≡ true) where
@@ -72,3 +83,25 @@ module _
       (ap (λ l. cellsFrom b (covered n l) (byteCell writable ys)) as-long
       ∙ part-written b (covered n (length xs)) xs a w v (even .0) (covered-even n (length xs) (even .1)) (sym fit) (place .0) ys
         (λ k. stored k ∙ ap (λ j. cond (within j w k) (byteOf v (k - j)) (getD xs k 0)) (place .1)))
+
+  ends : i + w ≤ n
+  ends =
+      let inside = stays-inside b (covered n (length xs)) a w (a + w - 1) (even .0) (covered-even n (length xs) (even .1)) (sym fit) (last-named a w (sym fit)) (place .0) in
+      let bounds = within-bounds b (covered n (length xs)) (a + w - 1) inside in
+      let first = within-bounds b (covered n (length xs)) a (place .0) in
+      omega (arith, covered-most n (length xs), bounds, first, place .1, wide a w (sym fit))
+
+  -- what the span does not cover stays
+  pub span-kept : drop n ys ≡ drop n xs
+  span-kept = same-lists (drop n ys) (drop n xs) (simp length-drop (ap (λ l. l - n) as-long)) beyond
+    where
+      beyond : (k d : ℕ) → k < length (drop n ys) → getD (drop n ys) k d ≡ getD (drop n xs) k d
+      beyond k d h =
+          let inside : n + k < length ys = omega (arith, length-drop n ys) in
+          let past : within i w (n + k) ≡ false = grind (arith, tells, ends) in
+          getD-drop n ys k d
+          ∙ getD-default ys (n + k) d 0 inside
+          ∙ stored (n + k)
+          ∙ cond-false (within i w (n + k)) _ _ past
+          ∙ getD-default xs (n + k) 0 d (omega (arith, as-long))
+          ∙ sym (getD-drop n xs k d)

@@ -1,9 +1,12 @@
 // Memory that can be read and written, lent by the caller.
 ghost use mathlib.Core.Path.{_≡_};
-ghost use mathlib.Core.List.{[], _∷_};
+ghost use mathlib.Core.List.{List, _∷_};
+ghost use Prim.Native.Nat.{ℕ};
+ghost use lib.ListN.{length, drop};
 ghost use denote.Ref.{now, name};
 ghost use Rattle.bus.specs.Cell.{writable};
 ghost use Rattle.bus.specs.Memory.{readOf};
+ghost use Rattle.bus.specs.Board.{rangeCheck, ifAccepted};
 ghost use Rattle.parts.specs.Parts.{bankCells, spanCells};
 ghost use Rattle.parts.specs.Soundness.{writable-sound};
 use bus::Bus;
@@ -23,7 +26,9 @@ pub struct Bank<'a> {
 
 impl<'a> Bank<'a> {
     pub fn new(base: PhysAddr, memory: &'a mut [u8]) -> Bank<'a>
-        ensures cells { λ r. ⌜ spanCells writable (r .span .base) (r .span .length) (now (r .memory)) ≡ bankCells (base .0) (now (memory .entry)) ⌝ }
+        ensures cells { λ r. ⌜ ((xs : List ℕ) → length xs ≡ length (now (memory .entry)) → spanCells writable (r .span .base) (r .span .length) xs ≡ bankCells (base .0) xs) ⌝ }
+        ensures size { λ r. ⌜ r .span .length ≡ ifAccepted (rangeCheck (base .0) (length (now (memory .entry)))) (length (now (memory .entry))) ⌝ }
+        ensures memory { λ r. ⌜ now (r .memory) ≡ now (memory .entry) ⌝ }
         ensures lender { λ r. ⌜ name (r .memory) ≡ name (memory .entry) ⌝ }
     {
         Bank { span: Span::new(base, memory.len() as u64), memory }
@@ -42,7 +47,7 @@ pub impl Bus for Bank<'_> as BankBus {
 
     ghost sound = { λ s. writable-sound (s .span .base) (s .span .length) (now (s .memory)) (s .span .inside) };
 
-    ghost layout = { λ s. s .span .base ∷ s .span .length ∷ name (s .memory) ∷ [] };
+    ghost layout = { λ s. s .span .base ∷ s .span .length ∷ name (s .memory) ∷ drop (s .span .length) (now (s .memory)) };
 
     fn read(&mut self, at: PhysAddr, width: u32) -> Result<u32, Refusal> {
         self.look(at, width)

@@ -1,0 +1,45 @@
+-- What memory holds that was lent to a bank and comes back.
+use mathlib.Core.Path.{_≡_, refl, sym, ap, _∙_}
+use mathlib.Core.Bool.{Bool, true, false, cond, _&&_}
+use mathlib.Core.List.{List, _∷_}
+use Prim.Native.Nat.{ℕ, zero, _+_, _-_, _%_, _<_, _≤_}
+use native.Mathlib.Omega.{arith}
+use lib.Dec.{leb, ltb}
+use lib.ListN.{length, getD, drop}
+use Rattle.std.proofs.shelf.Ways.{tells}
+use Rattle.std.proofs.shelf.Tests.{cond-true}
+use Rattle.std.specs.declared.result.Result.the-variants.{Ok, Err}
+use Rattle.bus.specs.declared.refusal.BoardRefusal.{BoardRefusal}
+use Rattle.bus.specs.Cell.{writable, absent}
+use Rattle.bus.specs.Memory.{Memory, held, within}
+use Rattle.bus.specs.Board.{rangeCheck, whereAccepted, ifAccepted, cellsFrom}
+use Rattle.parts.specs.Parts.{byteCell, bankCells}
+use Rattle.calls.specs.Laws.{Settled}
+
+-- two layouts of a bank that are equal
+pub layout-parts : (b n name b′ n′ name′ : ℕ) (rest rest′ : List ℕ) → b ∷ n ∷ name ∷ rest ≡ b′ ∷ n′ ∷ name′ ∷ rest′ → (b ≡ b′) × (n ≡ n′) × (name ≡ name′) × (rest ≡ rest′)
+layout-parts b n name b′ n′ name′ rest rest′ e = (cc, cc, cc, cc)
+
+module _ (b : ℕ) (xs ys : List ℕ) (m : Memory) (as-long : length ys ≡ length xs) (fits : (k : ℕ) → getD ys k 0 < 256) (meant : bankCells b ys ≡ m) where
+  covered : (k : ℕ) → k < length ys → within b (length ys) (b + k) ≡ true
+  covered k l = grind (arith, tells)
+
+  byte-shown : rangeCheck b (length xs) ≡ Ok tt → (k : ℕ) → k < length xs → getD ys k 0 ≡ held (m (b + k))
+  byte-shown e k l =
+      let inside : k < length ys = omega arith in
+      let accepted : rangeCheck b (length ys) ≡ Ok tt = ap (rangeCheck b) as-long ∙ e in
+      let place : (b + k) - b ≡ k = omega arith in
+      let byte : getD ys k 0 ≡ getD ys k 0 % 256 = omega (arith, fits k) in
+      byte
+      ∙ sym (ap (λ j. getD ys j 0 % 256) place)
+      ∙ sym (ap held (ap (λ r. whereAccepted r (cellsFrom b (length ys) (byteCell writable ys)) (b + k)) accepted ∙ cond-true (within b (length ys) (b + k)) _ _ (covered k inside)))
+      ∙ ap (λ f. held (f (b + k))) meant
+
+  -- n is how much of xs the bank showed; the rest is kept
+  pub settled : (n : ℕ) → n ≡ ifAccepted (rangeCheck b (length xs)) (length xs) → drop n ys ≡ drop n xs → Settled b xs m ys
+  settled n is kept = record {
+    as-long = as-long;
+    shown = byte-shown;
+    refused = λ e q.
+      let none : n ≡ 0 = is ∙ ap (λ r. ifAccepted r (length xs)) q in
+      sym (ap (λ i. drop i ys) none) ∙ kept ∙ ap (λ i. drop i xs) none }
