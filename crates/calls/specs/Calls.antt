@@ -1,5 +1,9 @@
 -- What a call answers and leaves, and a list of calls.
 use mathlib.Core.List.{List, [], _∷_}
+use Prim.Native.Nat.{ℕ}
+use Rattle.std.specs.declared.result.Result.{Result}
+use Rattle.std.specs.declared.result.Result.the-variants.{Ok, Err}
+use Rattle.bus.specs.declared.refusal.Refusal.{Refusal}
 use Rattle.bus.specs.Memory.{Memory, readOf, writeOf, answerOf, memoryAfter}
 use Rattle.calls.specs.declared.call.Call.{Call}
 use Rattle.calls.specs.declared.call.Call.the-variants.{Read, Write}
@@ -22,3 +26,8 @@ answersTo m (c ∷ cs) = answerTo m c ∷ answersTo (memoryOf m c) cs
 abbrev pub memoryThrough : Memory → List Call → Memory
 memoryThrough m [] = m
 memoryThrough m (c ∷ cs) = memoryThrough (memoryOf m c) cs
+
+-- v where a write was done, and else its refusal
+abbrev pub readBack : Result (Unit {0}) Refusal → ℕ → Result ℕ Refusal
+readBack (Ok _) v = Ok v
+readBack (Err e) v = Err e

@@ -18,7 +18,7 @@ pub struct Lock<B> {
 
 impl<B: Bus> Lock<B> {
     pub fn new(base: PhysAddr, length: u64, inner: B) -> Lock<B>
-        ensures cells { λ r. ⌜ spanLock (r .span .base) (r .span .length) (byte inner) ≡ lockCells (base .0) length (byte inner) ⌝ }
+        ensures cells { λ r. ⌜ spanLock (r .span .base) (r .span .length) (byte (r .inner)) ≡ lockCells (base .0) length (byte inner) ⌝ }
         ensures inner { λ r. ⌜ r .inner ≡ inner ⌝ }
     {
         Lock { span: Span::new(base, length), inner }

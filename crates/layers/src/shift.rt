@@ -19,7 +19,7 @@ pub struct Shift<B> {
 
 impl<B: Bus> Shift<B> {
     pub fn new(base: PhysAddr, length: u64, inner: B) -> Shift<B>
-        ensures cells { λ r. ⌜ cellsFrom (r .span .base) (r .span .length) (byte inner) ≡ shiftCells (base .0) length (byte inner) ⌝ }
+        ensures cells { λ r. ⌜ cellsFrom (r .span .base) (r .span .length) (byte (r .inner)) ≡ shiftCells (base .0) length (byte inner) ⌝ }
         ensures inner { λ r. ⌜ r .inner ≡ inner ⌝ }
     {
         Shift { span: Span::new(base, length), inner }

@@ -18,7 +18,7 @@ pub struct Split<L, R> {
 
 impl<L: Bus, R: Bus> Split<L, R> {
     pub fn new(border: PhysAddr, low: L, high: R) -> Split<L, R>
-        ensures border { λ r. ⌜ r .border ≡ border ⌝ }
+        ensures cells { λ r. ⌜ splitCells (r .border .0) (L·Bus .byte (r .low)) (R·Bus .byte (r .high)) ≡ splitCells (border .0) (L·Bus .byte low) (R·Bus .byte high) ⌝ }
         ensures low { λ r. ⌜ r .low ≡ low ⌝ }
         ensures high { λ r. ⌜ r .high ≡ high ⌝ }
     {
