@@ -1,6 +1,6 @@
 -- What an aligned access meets, over any memory.
 use mathlib.Core.Path.{_≡_, refl, sym, ap, _∙_}
-use mathlib.Core.Bool.{Bool, true, false, cond, _&&_, _||_}
+use mathlib.Core.Bool.{Bool, true, false, not, cond, _&&_, _||_}
 use Prim.Native.Nat.{ℕ, zero, suc, _+_, _-_, _*_, _%_, _^_, _≤_, _<_}
 use native.Mathlib.Omega.{arith}
 use lib.Dec.{eqb, leb, ltb}
@@ -10,10 +10,11 @@ use Rattle.std.specs.declared.option.Option.the-variants.{Some, None}
 use Rattle.std.specs.declared.result.Result.{Result}
 use Rattle.std.specs.declared.result.Result.the-variants.{Ok, Err}
 use Rattle.bus.specs.declared.address.PhysAddr.{PhysAddr}
+use Rattle.bus.specs.declared.refusal.BoardRefusal.{BoardRefusal}
 use Rattle.bus.specs.declared.refusal.Refusal.{Refusal}
 use Rattle.bus.specs.declared.refusal.Refusal.the-variants.{Misaligned, Absent, Fixed}
 use Rattle.bus.specs.Cell.{Cell, absent, fixed, writable}
-use Rattle.bus.specs.Board.{offsetIn}
+use Rattle.bus.specs.Board.{rangeCheck, whereAccepted, offsetWhere, cellsFrom, partCells, offsetIn}
 use Rattle.bus.specs.Memory.{Memory, isWidth, aligned, within, isAbsent, isFixed, unlessAny, writeOf, answerOf, memoryAfter, put}
 
 pub within-bounds : (a n x : ℕ) → within a n x ≡ true → (a ≤ x) × (x < a + n)
@@ -27,20 +28,45 @@ module _ (b n a w x : ℕ) (even-base : b % 4 ≡ 0) (even-length : n % 4 ≡ 0)
   pub stays-outside : within b n a ≡ false → within b n x ≡ false
   stays-outside e = grind (arith, tells)
 
--- what an offset that is found says
-pub offset-found : (b n a i : ℕ) → Some i ≡ offsetIn b n a → (within b n a ≡ true) × (i ≡ a - b)
-offset-found b n a i e = go (within b n a) refl
-  where
-    go : (t : Bool) → within b n a ≡ t → (within b n a ≡ true) × (i ≡ a - b)
-    go true u = (u, let h : Some i ≡ Some (a - b) = e ∙ cond-true (within b n a) (Some (a - b)) None u in cc)
-    go false u = let h : Some i ≡ None = e ∙ cond-false (within b n a) (Some (a - b)) None u in let z : _≡_ {A = ℕ} 0 1 = cc in absurd (omega arith)
+-- what numbers have that a board accepts
+pub record Accepted (b n : ℕ) : Type 0 where
+  pub even-base : b % 4 ≡ 0
+  pub even-length : n % 4 ≡ 0
+  pub some : 0 < n
+  pub inside : b + n ≤ 2 ^ 32
+  pub checked : rangeCheck b n ≡ Ok tt
 
-pub offset-none : (b n a : ℕ) → None ≡ offsetIn b n a → within b n a ≡ false
-offset-none b n a e = go (within b n a) refl
+pub accepted : (b n : ℕ) → rangeCheck b n ≡ Ok tt → Accepted b n
+accepted b n e = go (eqb (b % 4) 0 && (eqb (n % 4) 0 && not (eqb n 0))) refl (leb (b + n) (2 ^ 32)) refl
   where
-    go : (t : Bool) → within b n a ≡ t → within b n a ≡ false
-    go true u = let h : None ≡ Some (a - b) = e ∙ cond-true (within b n a) (Some (a - b)) None u in let z : _≡_ {A = ℕ} 0 1 = cc in absurd (omega arith)
-    go false u = u
+    go : (t : Bool) → (eqb (b % 4) 0 && (eqb (n % 4) 0 && not (eqb n 0))) ≡ t → (u : Bool) → leb (b + n) (2 ^ 32) ≡ u → Accepted b n
+    go true p true q = record { even-base = grind (arith, tells); even-length = grind (arith, tells); some = grind (arith, tells); inside = grind (arith, tells); checked = e }
+    go true p false q = let z : _≡_ {A = ℕ} 0 1 = grind (arith, tells) in absurd (omega arith)
+    go false p u q = let z : _≡_ {A = ℕ} 0 1 = grind (arith, tells) in absurd (omega arith)
+
+-- a part of accepted numbers, with an offset into it
+pub record Found (b n a i : ℕ) : Type 0 where
+  pub range : Accepted b n
+  pub begins : within b n a ≡ true
+  pub offset : i ≡ a - b
+
+found-where : (b n a i : ℕ) (r : Result (Unit {0}) BoardRefusal) → rangeCheck b n ≡ r → (t : Bool) → within b n a ≡ t → Some i ≡ offsetWhere r (cond t (Some (a - b)) None) → Found b n a i
+found-where b n a i (Ok _) e true u q = record { range = accepted b n e; begins = u; offset = cc }
+found-where b n a i (Ok _) e false u q = let z : _≡_ {A = ℕ} 0 1 = cc in absurd (omega arith)
+found-where b n a i (Err _) e t u q = let z : _≡_ {A = ℕ} 0 1 = cc in absurd (omega arith)
+
+pub offset-found : (b n a i : ℕ) → Some i ≡ offsetIn b n a → Found b n a i
+offset-found b n a i q = found-where b n a i (rangeCheck b n) refl (within b n a) refl q
+
+none-where : (b n a : ℕ) (t : Bool) → within b n a ≡ t → None ≡ cond t (Some (a - b)) None → within b n a ≡ false
+none-where b n a true u q = let z : _≡_ {A = ℕ} 0 1 = cc in absurd (omega arith)
+none-where b n a false u q = u
+
+pub offset-none : (b n a : ℕ) → rangeCheck b n ≡ Ok tt → None ≡ offsetIn b n a → within b n a ≡ false
+offset-none b n a e q = none-where b n a (within b n a) refl (q ∙ ap (λ r. offsetWhere r (cond (within b n a) (Some (a - b)) None)) e)
+
+pub part-is : (b n : ℕ) (f : ℕ → Cell) → rangeCheck b n ≡ Ok tt → partCells b n f ≡ cellsFrom b n f
+part-is b n f e = ap (λ r. whereAccepted r (cellsFrom b n f)) e
 
 -- what a write answers, and what it leaves
 pub record Written (m : Memory) (a w v : ℕ) (r : Result (Unit {0}) Refusal) (n : Memory) : Type 0 where

@@ -30,10 +30,6 @@ abbrev pub whereAccepted : Result (Unit {0}) BoardRefusal → Memory → Memory
 whereAccepted (Ok _) m = m
 whereAccepted (Err e) m = nothing
 
-abbrev pub ifAccepted : Result (Unit {0}) BoardRefusal → ℕ → ℕ
-ifAccepted (Ok _) n = n
-ifAccepted (Err e) n = 0
-
 -- n cells from b on, of which the k-th is f k
 abbrev pub cellsFrom : ℕ → ℕ → (ℕ → Cell) → Memory
 cellsFrom b n f a = cond (within b n a) (f (a - b)) absent
@@ -42,6 +38,10 @@ cellsFrom b n f a = cond (within b n a) (f (a - b)) absent
 abbrev pub partCells : ℕ → ℕ → (ℕ → Cell) → Memory
 partCells b n f = whereAccepted (rangeCheck b n) (cellsFrom b n f)
 
--- how far a lies behind b, if it is one of the n addresses from b on
+abbrev pub offsetWhere : Result (Unit {0}) BoardRefusal → Option ℕ → Option ℕ
+offsetWhere (Ok _) o = o
+offsetWhere (Err e) o = None
+
+-- how far a lies behind b, if a part of n bytes from b on has it
 abbrev pub offsetIn : ℕ → ℕ → ℕ → Option ℕ
-offsetIn b n a = cond (within b n a) (Some (a - b)) None
+offsetIn b n a = offsetWhere (rangeCheck b n) (cond (within b n a) (Some (a - b)) None)

@@ -1,6 +1,6 @@
-// What the numbers that a board is built of have to be.
+// What the numbers that a board is built of have to be, and which addresses a part has.
 ghost use mathlib.Core.Path.{_≡_};
-ghost use Rattle.bus.specs.Board.{rangeCheck, borderCheck};
+ghost use Rattle.bus.specs.Board.{rangeCheck, borderCheck, offsetIn};
 use crate::address::PhysAddr;
 use crate::refusal::BoardRefusal;
 
@@ -27,5 +27,21 @@ pub fn check_border(border: PhysAddr) -> Result<(), BoardRefusal>
         Err(BoardRefusal::Uneven)
     } else {
         Ok(())
+    }
+}
+
+// How far `at` lies behind `base`, if a part of `length` bytes from `base` on has it. One made of refused numbers has nothing.
+pub fn offset_in(base: PhysAddr, length: u64, at: PhysAddr) -> Option<u32>
+    ensures { λ r. ⌜ r ≡ offsetIn (base .0) length (at .0) ⌝ }
+{
+    if check_range(base, length).is_err() {
+        return None;
+    }
+    // An address below the base wraps to a number that no accepted length reaches.
+    let offset = at.0.wrapping_sub(base.0);
+    if (offset as u64) < length {
+        Some(offset)
+    } else {
+        None
     }
 }

@@ -8,7 +8,6 @@ pub mod address;
 pub mod refusal;
 pub mod access;
 pub mod board;
-pub mod span;
 pub mod reference;
 
 pub use access::is_aligned;
@@ -16,9 +15,9 @@ pub use access::missing;
 pub use address::PhysAddr;
 pub use board::check_border;
 pub use board::check_range;
+pub use board::offset_in;
 pub use refusal::BoardRefusal;
 pub use refusal::Refusal;
-pub use span::Span;
 
 pub trait Bus {
     // What each physical address holds.

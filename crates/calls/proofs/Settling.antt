@@ -1,24 +1,24 @@
 -- What memory holds that was lent to a bank and comes back.
-use mathlib.Core.Path.{_≡_, refl, sym, ap, _∙_}
+use mathlib.Core.Path.{_≡_, sym, ap, _∙_}
 use mathlib.Core.Bool.{Bool, true, false, cond, _&&_}
 use mathlib.Core.List.{List, _∷_}
-use Prim.Native.Nat.{ℕ, zero, _+_, _-_, _%_, _<_, _≤_}
+use Prim.Native.Nat.{ℕ, _+_, _-_, _%_, _<_, _≤_}
 use native.Mathlib.Omega.{arith}
 use lib.Dec.{leb, ltb}
-use lib.ListN.{length, getD, drop}
+use lib.ListN.{length, getD}
 use Rattle.std.proofs.shelf.Ways.{tells}
 use Rattle.std.proofs.shelf.Tests.{cond-true}
-use Rattle.std.specs.declared.result.Result.the-variants.{Ok, Err}
-use Rattle.bus.specs.declared.refusal.BoardRefusal.{BoardRefusal}
-use Rattle.bus.specs.Cell.{writable, absent}
+use Rattle.std.specs.declared.result.Result.the-variants.{Ok}
+use Rattle.bus.specs.Cell.{writable}
 use Rattle.bus.specs.Memory.{Memory, held, within}
-use Rattle.bus.specs.Board.{rangeCheck, whereAccepted, ifAccepted, cellsFrom}
-use Rattle.parts.specs.Parts.{byteCell, bankCells}
+use Rattle.bus.specs.Board.{rangeCheck}
+use Rattle.bus.proofs.Accesses.{part-is}
+use Rattle.parts.specs.Parts.{byteCell, bankCells, hiddenWhere, hiddenBytes}
 use Rattle.calls.specs.Laws.{Settled}
 
 -- two layouts of a bank that are equal
-pub layout-parts : (b n name b′ n′ name′ : ℕ) (rest rest′ : List ℕ) → b ∷ n ∷ name ∷ rest ≡ b′ ∷ n′ ∷ name′ ∷ rest′ → (b ≡ b′) × (n ≡ n′) × (name ≡ name′) × (rest ≡ rest′)
-layout-parts b n name b′ n′ name′ rest rest′ e = (cc, cc, cc, cc)
+pub layout-parts : (b name b′ name′ : ℕ) (rest rest′ : List ℕ) → b ∷ name ∷ rest ≡ b′ ∷ name′ ∷ rest′ → (b ≡ b′) × (name ≡ name′) × (rest ≡ rest′)
+layout-parts b name b′ name′ rest rest′ e = (cc, cc, cc)
 
 module _ (b : ℕ) (xs ys : List ℕ) (m : Memory) (as-long : length ys ≡ length xs) (fits : (k : ℕ) → getD ys k 0 < 256) (meant : bankCells b ys ≡ m) where
   covered : (k : ℕ) → k < length ys → within b (length ys) (b + k) ≡ true
@@ -32,14 +32,11 @@ module _ (b : ℕ) (xs ys : List ℕ) (m : Memory) (as-long : length ys ≡ leng
       let byte : getD ys k 0 ≡ getD ys k 0 % 256 = omega (arith, fits k) in
       byte
       ∙ sym (ap (λ j. getD ys j 0 % 256) place)
-      ∙ sym (ap held (ap (λ r. whereAccepted r (cellsFrom b (length ys) (byteCell writable ys)) (b + k)) accepted ∙ cond-true (within b (length ys) (b + k)) _ _ (covered k inside)))
+      ∙ sym (ap held (ap (λ f. f (b + k)) (part-is b (length ys) (byteCell writable ys) accepted) ∙ cond-true (within b (length ys) (b + k)) _ _ (covered k inside)))
       ∙ ap (λ f. held (f (b + k))) meant
 
-  -- n is how much of xs the bank showed; the rest is kept
-  pub settled : (n : ℕ) → n ≡ ifAccepted (rangeCheck b (length xs)) (length xs) → drop n ys ≡ drop n xs → Settled b xs m ys
-  settled n is kept = record {
+  pub settled : hiddenBytes b ys ≡ hiddenBytes b xs → Settled b xs m ys
+  settled kept = record {
     as-long = as-long;
     shown = byte-shown;
-    refused = λ e q.
-      let none : n ≡ 0 = is ∙ ap (λ r. ifAccepted r (length xs)) q in
-      sym (ap (λ i. drop i ys) none) ∙ kept ∙ ap (λ i. drop i xs) none }
+    refused = λ e q. sym (ap (λ r. hiddenWhere r ys) (ap (rangeCheck b) as-long ∙ q)) ∙ kept ∙ ap (λ r. hiddenWhere r xs) q }

@@ -5,16 +5,17 @@ use Prim.Native.Nat.{ℕ, zero, suc, _+_, _*_, _%_, _≤_, _<_}
 use native.Mathlib.Omega.{arith}
 use lib.Dec.{eqb, leb, ltb}
 use Rattle.std.proofs.shelf.Ways.{tells}
-use Rattle.std.proofs.shelf.Tests.{cond-true, cond-false, ne-eqb}
+use Rattle.std.proofs.shelf.Tests.{cond-true, cond-false}
+use Rattle.std.specs.declared.option.Option.the-variants.{Some, None}
 use Rattle.std.specs.declared.result.Result.{Result}
 use Rattle.std.specs.declared.result.Result.the-variants.{Ok, Err}
 use Rattle.bus.specs.declared.refusal.Refusal.{Refusal}
 use Rattle.bus.specs.declared.refusal.Refusal.the-variants.{Misaligned, Absent, Fixed}
 use Rattle.bus.specs.Cell.{Cell, absent, fixed, writable}
 use Rattle.bus.specs.Memory.{Memory, address, held, aligned, within, isAbsent, isFixed, unlessAny, valueAt, readOf, writeOf, put}
-use Rattle.bus.specs.Board.{nothing}
-use Rattle.bus.proofs.Accesses.{stays-outside, Written, written-by, written-same}
-use Rattle.layers.specs.Layers.{locked, lockedFrom, spanLock}
+use Rattle.bus.specs.Board.{rangeCheck, whereAccepted, offsetIn}
+use Rattle.bus.proofs.Accesses.{stays-outside, Accepted, accepted, offset-found, offset-none, Written, written-by, written-same}
+use Rattle.layers.specs.Layers.{locked, lockedFrom, lockCells}
 use Rattle.layers.proofs.Views.{written-over}
 
 held-locked : (t : Bool) (c : Cell) → held (cond t (locked c) c) ≡ held c
@@ -50,9 +51,12 @@ same-refusal d e q = cc
 never-refused : {X Y : Type 0} (x : X) (s : Result Y Refusal) (e : Refusal) → Ok x ≡ Err e → s ≡ Err e
 never-refused x s e q = cc
 
-module _ (b n : ℕ) (any : n ≡ 0 → ⊥) (m : Memory) where
-  lock-is : (f : Memory) → spanLock b n f ≡ lockedFrom b n f
-  lock-is f = cond-false (eqb n 0) nothing (lockedFrom b n f) (ne-eqb n 0 any)
+module _ (b n : ℕ) (checked : Ok tt ≡ rangeCheck b n) (m : Memory) where
+  lock-is : (f : Memory) → lockCells b n f ≡ lockedFrom b n f
+  lock-is f = ap (λ r. whereAccepted r (lockedFrom b n f)) (sym checked)
+
+  range : Accepted b n
+  range = accepted b n (sym checked)
 
   value-locked : (a k : ℕ) → valueAt (lockedFrom b n m) a k ≡ valueAt m a k
   value-locked a zero = refl
@@ -62,7 +66,7 @@ module _ (b n : ℕ) (any : n ≡ 0 → ⊥) (m : Memory) where
   present-locked a zero r = refl
   present-locked a (suc k) r = ap₂ (λ t s. cond t (Err (Absent (address a))) s) (absent-locked (within b n a) (m a)) (present-locked (suc a) k r)
 
-  pub lock-read : (a w : ℕ) (r : Result ℕ Refusal) → r ≡ readOf m a w → r ≡ readOf (spanLock b n m) a w
+  pub lock-read : (a w : ℕ) (r : Result ℕ Refusal) → r ≡ readOf m a w → r ≡ readOf (lockCells b n m) a w
   lock-read a w r e =
       e
       ∙ sym (ap (λ r. cond (aligned a w) r (Err Misaligned))
@@ -98,13 +102,13 @@ module _ (b n : ℕ) (any : n ≡ 0 → ⊥) (m : Memory) where
             ∙ present-refused a w (valueAt m a w) (unlessAny isFixed Fixed (lockedFrom b n m) a w (Ok (put (lockedFrom b n m) a w v))) e (sym (cond-true (aligned a w) _ _ u) ∙ sym q)
         go false u = cond-false (aligned a w) _ _ u ∙ same-refusal Misaligned e (sym (cond-false (aligned a w) _ _ u) ∙ sym q)
 
-    refuses : (e : Refusal) (f : Memory) → f ≡ m → writeOf (lockedFrom b n m) a w v ≡ Err e → Written (spanLock b n m) a w v (Err e) (spanLock b n f)
-    refuses e f p q = written-by (spanLock b n m) (spanLock b n f) a w v (Err e) (ap (λ x. writeOf x a w v) (lock-is m) ∙ q) (ap (spanLock b n) p)
+    refuses : (e : Refusal) (f : Memory) → f ≡ m → writeOf (lockedFrom b n m) a w v ≡ Err e → Written (lockCells b n m) a w v (Err e) (lockCells b n f)
+    refuses e f p q = written-by (lockCells b n m) (lockCells b n f) a w v (Err e) (ap (λ x. writeOf x a w v) (lock-is m) ∙ q) (ap (lockCells b n) p)
 
-    pub unread-write : (e : Refusal) (f : Memory) → f ≡ m → Err e ≡ readOf m a w → Written (spanLock b n m) a w v (Err e) (spanLock b n f)
+    pub unread-write : (e : Refusal) (f : Memory) → f ≡ m → Err e ≡ readOf m a w → Written (lockCells b n m) a w v (Err e) (lockCells b n f)
     unread-write e f p q = refuses e f p (write-refused e q)
 
-    module _ (y : ℕ) (q : Ok y ≡ readOf m a w) (inside : within b n a ≡ true) where
+    module _ (y : ℕ) (q : Ok y ≡ readOf m a w) (i : ℕ) (offset : Some i ≡ offsetIn b n a) where
       readable : (aligned a w ≡ true) × (unlessAny isAbsent Absent m a w (Ok (valueAt m a w)) ≡ Ok y)
       readable = go (aligned a w) refl
         where
@@ -120,13 +124,13 @@ module _ (b n : ℕ) (any : n ≡ 0 → ⊥) (m : Memory) where
           cond-true (aligned a w) _ _ (readable .0)
           ∙ present-locked a w (unlessAny isFixed Fixed (lockedFrom b n m) a w (Ok (put (lockedFrom b n m) a w v)))
           ∙ present-passed a w (valueAt m a w) y (unlessAny isFixed Fixed (lockedFrom b n m) a w (Ok (put (lockedFrom b n m) a w v))) (readable .1)
-          ∙ first-fixed a w (valueAt m a w) y (Ok (put (lockedFrom b n m) a w v)) some inside (readable .1)
+          ∙ first-fixed a w (valueAt m a w) y (Ok (put (lockedFrom b n m) a w v)) some (offset-found b n a i offset .begins) (readable .1)
 
-      pub inside-write : (f : Memory) → f ≡ m → Written (spanLock b n m) a w v (Err (Fixed (address a))) (spanLock b n f)
+      pub inside-write : (f : Memory) → f ≡ m → Written (lockCells b n m) a w v (Err (Fixed (address a))) (lockCells b n f)
       inside-write f p = refuses (Fixed (address a)) f p write-fixed
 
-    pub outside-write : (even : (b % 4 ≡ 0) × (n % 4 ≡ 0)) → within b n a ≡ false → (r : Result (Unit {0}) Refusal) (f : Memory) → Written m a w v r f → Written (spanLock b n m) a w v r (spanLock b n f)
-    outside-write even outside r f h =
-        written-same (lockedFrom b n m) (spanLock b n m) (lockedFrom b n f) (spanLock b n f) a w v r (sym (lock-is m)) (lock-is f)
+    pub outside-write : None ≡ offsetIn b n a → (r : Result (Unit {0}) Refusal) (f : Memory) → Written m a w v r f → Written (lockCells b n m) a w v r (lockCells b n f)
+    outside-write outside r f h =
+        written-same (lockedFrom b n m) (lockCells b n m) (lockedFrom b n f) (lockCells b n f) a w v r (sym (lock-is m)) (lock-is f)
         (written-over (λ x c. cond (within b n x) (locked c) c) m a w v
-        (λ fit x e c. cond-false _ _ _ (stays-outside b n a w x (even .0) (even .1) fit e outside)) r f h)
+        (λ fit x e c. cond-false _ _ _ (stays-outside b n a w x (range .even-base) (range .even-length) fit e (offset-none b n a (sym checked) outside))) r f h)

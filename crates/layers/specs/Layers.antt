@@ -1,12 +1,12 @@
 -- What a layer shows of the buses below it.
 use mathlib.Core.Bool.{cond}
 use Prim.Native.Nat.{ℕ, _+_, _%_, _^_}
-use lib.Dec.{eqb, ltb}
+use lib.Dec.{ltb}
 use Rattle.bus.specs.declared.refusal.Refusal.{Refusal}
 use Rattle.bus.specs.declared.refusal.Refusal.the-variants.{Misaligned, Absent, Fixed}
 use Rattle.bus.specs.Cell.{Cell, absent, fixed, writable}
 use Rattle.bus.specs.Memory.{Memory, address, within}
-use Rattle.bus.specs.Board.{rangeCheck, borderCheck, nothing, whereAccepted, partCells}
+use Rattle.bus.specs.Board.{rangeCheck, borderCheck, whereAccepted, partCells}
 
 -- lo below c, and hi from there on
 abbrev pub sides : ℕ → Memory → Memory → Memory
@@ -39,7 +39,3 @@ lockedFrom b n m a = cond (within b n a) (locked (m a)) (m a)
 -- a lock of the n bytes from b on
 abbrev pub lockCells : ℕ → ℕ → Memory → Memory
 lockCells b n m = whereAccepted (rangeCheck b n) (lockedFrom b n m)
-
--- the same under a span that is made already: one of refused numbers covers nothing
-abbrev pub spanLock : ℕ → ℕ → Memory → Memory
-spanLock b n m = cond (eqb n 0) nothing (lockedFrom b n m)

@@ -1,12 +1,13 @@
 -- What the parts at the bottom of a board hold.
-use mathlib.Core.Bool.{cond}
-use mathlib.Core.List.{List}
+use mathlib.Core.List.{List, []}
 use Prim.Native.Nat.{ℕ, _%_}
-use lib.Dec.{leb}
 use lib.ListN.{length, getD, replicate}
+use Rattle.std.specs.declared.result.Result.{Result}
+use Rattle.std.specs.declared.result.Result.the-variants.{Ok, Err}
+use Rattle.bus.specs.declared.refusal.BoardRefusal.{BoardRefusal}
 use Rattle.bus.specs.Cell.{Cell, fixed, writable}
 use Rattle.bus.specs.Memory.{Memory}
-use Rattle.bus.specs.Board.{partCells, cellsFrom}
+use Rattle.bus.specs.Board.{rangeCheck, partCells}
 
 -- the k-th byte of a list, in a cell of the given kind
 abbrev pub byteCell : (ℕ → Cell) → List ℕ → ℕ → Cell
@@ -24,10 +25,10 @@ imageCells b xs = partCells b (length xs) (byteCell fixed xs)
 abbrev pub portCells : ℕ → Memory
 portCells b = bankCells b (replicate 64 0)
 
--- what a span of n bytes covers of a list of l: nothing, were it the longer
-abbrev pub covered : ℕ → ℕ → ℕ
-covered n l = cond (leb n l) n 0
+-- the bytes of a bank's memory that it does not show: all, where its numbers are refused
+abbrev pub hiddenWhere : Result (Unit {0}) BoardRefusal → List ℕ → List ℕ
+hiddenWhere (Ok _) xs = []
+hiddenWhere (Err e) xs = xs
 
--- the cells of a list under a span that is made already: n addresses from b on
-abbrev pub spanCells : (ℕ → Cell) → ℕ → ℕ → List ℕ → Memory
-spanCells kind b n xs = cellsFrom b (covered n (length xs)) (byteCell kind xs)
+abbrev pub hiddenBytes : ℕ → List ℕ → List ℕ
+hiddenBytes b xs = hiddenWhere (rangeCheck b (length xs)) xs

@@ -1,14 +1,14 @@
 use mathlib.Core.List.{_∷_}
-use mathlib.Core.Path.{ap, _∙_}
-use Rattle.layers.specs.Layers.{spanLock}
+use mathlib.Core.Path.{ap}
+use Rattle.layers.specs.Layers.{lockCells}
 use Rattle.layers.proofs.Locking.{lock-read}
 use Rattle.layers.proofs.lock.LockBus.read.Needs as need
 
-pub returns : need.returns
-returns g c =
+pub returns-in-Ok : need.returns-in-Ok
+returns-in-Ok g c =
     let s = c .args .self .now in
     record {
-      value = lock-read (s .span .base) (s .span .length) (λ e. c .if-length-eq0 .left (c .length .ensures ∙ e)) (g .B·Bus .byte (s .inner)) (c .args .at .0) (c .args .width) (c .read .result) (c .read .ensures .value);
-      same = ap (spanLock (s .span .base) (s .span .length)) (c .read .ensures .same);
-      kept = ap (λ l. s .span .base ∷ s .span .length ∷ l) (c .read .ensures .kept);
+      value = lock-read (s .base .0) (s .length) (c .in-Ok .ensures tt) (g .B·Bus .byte (s .inner)) (c .args .at .0) (c .args .width) (c .read .result) (c .read .ensures .value);
+      same = ap (lockCells (s .base .0) (s .length)) (c .read .ensures .same);
+      kept = ap (λ l. s .base .0 ∷ s .length ∷ l) (c .read .ensures .kept);
     }
