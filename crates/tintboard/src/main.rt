@@ -161,8 +161,9 @@ fn keep_memory(rt: &LibcRuntime) -> Result<(), AnyError> {
     let call = Call::Write { at: PhysAddr(0x1002), width: 2, value: 0xbeef };
     show::call(rt, call)?;
     show::answer(rt, perform_in_memory(PhysAddr(0x1000), &mut memory, call))?;
+    print!(rt, "memory:")?;
     for byte in memory {
-        print!(rt, "{byte:02X} ")?;
+        print!(rt, " {byte:02X}")?;
     }
     println!(rt, "")?;
     Ok(())
