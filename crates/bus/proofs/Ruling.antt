@@ -69,7 +69,8 @@ module _ (m : Memory) (a w : ℕ) where
     replaced : Replaced m a w v (put m a w v)
     replaced = record {
       named = λ x l. cond-true (within a w x) _ _ (grind (arith, tells));
-      others = λ x l. cond-false (within a w x) _ _ (outside x l) }
+      others = λ x l. cond-false (within a w x) _ _ (outside x l);
+    }
       where
         outside : (x : ℕ) → (Names a w x → ⊥) → within a w x ≡ false
         outside x l = go (within a w x) refl
@@ -88,9 +89,9 @@ module _ (m : Memory) (a w : ℕ) where
         go true e =
             ⊎-elim
             (λ h. ⊎-elim
-              (λ k. subst Ruled (sym (cond-true (aligned a w) _ _ e ∙ h .1 ∙ k .1)) (written (put m a w v) e (h .0) (k .0) replaced))
-              (λ k. subst Ruled (sym (cond-true (aligned a w) _ _ e ∙ h .1 ∙ k .1 .1)) (unwritable (k .0) e (h .0) (k .1 .0)))
-              (scan isFixed Fixed m a w (Ok (put m a w v))))
+            (λ k. subst Ruled (sym (cond-true (aligned a w) _ _ e ∙ h .1 ∙ k .1)) (written (put m a w v) e (h .0) (k .0) replaced))
+            (λ k. subst Ruled (sym (cond-true (aligned a w) _ _ e ∙ h .1 ∙ k .1 .1)) (unwritable (k .0) e (h .0) (k .1 .0)))
+            (scan isFixed Fixed m a w (Ok (put m a w v))))
             (λ h. subst Ruled (sym (cond-true (aligned a w) _ _ e ∙ h .1 .1)) (missing (h .0) e (h .1 .0)))
             (scan isAbsent Absent m a w (unlessAny isFixed Fixed m a w (Ok (put m a w v))))
         go false e = subst Ruled (sym (cond-false (aligned a w) _ _ e)) (misaligned e)

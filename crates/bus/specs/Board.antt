@@ -14,9 +14,9 @@ use Rattle.bus.specs.Memory.{Memory, within}
 -- whether a part may have n bytes from b on
 abbrev pub rangeCheck : ℕ → ℕ → Result (Unit {0}) BoardRefusal
 rangeCheck b n =
-  cond (eqb (b % 4) 0 && (eqb (n % 4) 0 && not (eqb n 0)))
-  (cond (leb (b + n) (2 ^ 32)) (Ok tt) (Err PastEnd))
-  (Err Uneven)
+    cond (eqb (b % 4) 0 && (eqb (n % 4) 0 && not (eqb n 0)))
+    (cond (leb (b + n) (2 ^ 32)) (Ok tt) (Err PastEnd))
+    (Err Uneven)
 
 -- whether a split may have its border at c
 abbrev pub borderCheck : ℕ → Result (Unit {0}) BoardRefusal

@@ -18,7 +18,8 @@ nothing-sound = record { ends = λ a p. refl; bytes = λ a. lit< tt }
 cells-sound : (b n : ℕ) (f : ℕ → Cell) → b + n ≤ 2 ^ 32 → ((k : ℕ) → held (f k) < 256) → Sound (cellsFrom b n f)
 cells-sound b n f l h = record {
   ends = λ a p. cond-false (within b n a) (f (a - b)) absent (and-right (leb b a) (ltb a (b + n)) (le-ltb a (b + n) (omega arith)));
-  bytes = λ a. cond-both (within b n a) (f (a - b)) absent (λ c. held c < 256) (λ _. h (a - b)) (λ _. lit< tt) }
+  bytes = λ a. cond-both (within b n a) (f (a - b)) absent (λ c. held c < 256) (λ _. h (a - b)) (λ _. lit< tt);
+}
 
 pub part-sound : (b n : ℕ) (f : ℕ → Cell) → ((k : ℕ) → held (f k) < 256) → Sound (partCells b n f)
 part-sound b n f h =

@@ -4,11 +4,11 @@ ghost use mathlib.Core.List.{List};
 ghost use Prim.Native.Nat.{ℕ};
 ghost use Rattle.bus.specs.Memory.{Memory, Sound, readOf, writeOf, answerOf, memoryAfter};
 
-pub mod address;
-pub mod refusal;
 pub mod access;
+pub mod address;
 pub mod board;
 pub mod reference;
+pub mod refusal;
 
 pub use access::is_aligned;
 pub use access::missing;

@@ -41,7 +41,8 @@ module _ (m : Memory) (a w v : ℕ) where
     unnamed = λ x e. r .others x (unnames x e);
     kept = λ x e. kept-at x (within a w x) refl e;
     absence = λ x. absence-at x (within a w x) refl;
-    fixity = λ x. fixity-at x (within a w x) refl }
+    fixity = λ x. fixity-at x (within a w x) refl;
+  }
     where
       kept-at : (x : ℕ) (t : Bool) → within a w x ≡ t → isFixed (m x) ≡ true → n x ≡ m x
       kept-at x true e q = absurd (both-ways (isFixed (m x)) (free x (names x e)) q)
@@ -74,7 +75,8 @@ lasting m (Write at w v ∷ cs) =
       unnamed = λ x e. let parts = or-parts (within (at .0) w x) (writes cs x) e in rest .unnamed x (parts .1) ∙ one .unnamed x (parts .0);
       kept = λ x e. rest .kept x (one .fixity x ∙ e) ∙ one .kept x e;
       absence = λ x. rest .absence x ∙ one .absence x;
-      fixity = λ x. rest .fixity x ∙ one .fixity x }
+      fixity = λ x. rest .fixity x ∙ one .fixity x;
+    }
 
 -- and it stays so where the calls were not made at all
 pub lasting-after : {X Y : Type 0} (m n : Memory) (cs : List Call) (r : Result X Y) → Cases r (λ _. n ≡ memoryThrough m cs) (λ _. n ≡ m) → Lasting m cs n

@@ -20,7 +20,7 @@ by-rule m (Write at w v) r n p q = subst (λ x. ByRule m (Write at w v) x n) (sy
 -- the i-th call of cs, made on m, leaves n and answers r
 module _ (cs : List Call) (i : ℕ) (d : Call) (m n : Memory) (left : n ≡ memoryOf m (getD cs i d)) where
   pub answers-more : (r : Answer) (before after whole : List Answer) → i < length cs → r ≡ answerTo m (getD cs i d) → after ≡ before ++ (r ∷ [])
-    → before ++ answersTo m (drop i cs) ≡ whole → after ++ answersTo n (drop (i + 1) cs) ≡ whole
+      → before ++ answersTo m (drop i cs) ≡ whole → after ++ answersTo n (drop (i + 1) cs) ≡ whole
   answers-more r before after whole lt e pushed inv =
       let step : answersTo m (drop i cs) ≡ answerTo m (getD cs i d) ∷ answersTo (memoryOf m (getD cs i d)) (drop (i + 1) cs) = at-drop-more (answersTo m) cs i d lt in
       let here : answersTo m (drop i cs) ≡ r ∷ answersTo n (drop (i + 1) cs) = step ∙ sym (λ j. e j ∷ answersTo (left j) (drop (i + 1) cs)) in

@@ -39,4 +39,5 @@ module _ (b : ℕ) (xs ys : List ℕ) (m : Memory) (as-long : length ys ≡ leng
   settled kept = record {
     as-long = as-long;
     shown = byte-shown;
-    refused = λ e q. sym (ap (λ r. hiddenWhere r ys) (ap (rangeCheck b) as-long ∙ q)) ∙ kept ∙ ap (λ r. hiddenWhere r xs) q }
+    refused = λ e q. sym (ap (λ r. hiddenWhere r ys) (ap (rangeCheck b) as-long ∙ q)) ∙ kept ∙ ap (λ r. hiddenWhere r xs) q;
+  }

@@ -4,9 +4,9 @@ ghost use Rattle.std.specs.Of.Vec.{vec-items};
 ghost use Rattle.std.specs.Results.{Cases};
 ghost use Rattle.calls.specs.Calls.{answerTo, memoryOf, answersTo, memoryThrough};
 ghost use Rattle.calls.specs.Laws.{ByRule, Lasting};
-use bus::Bus;
 use crate::call::Answer;
 use crate::call::Call;
+use bus::Bus;
 use std::alloc::AllocError;
 use std::alloc::Global;
 
@@ -45,7 +45,11 @@ fn ask_all<B: Bus>(heap: Global, bus: &mut B, calls: &[Call]) -> Result<Vec<Answ
 }
 
 // Makes the calls in their order. Where there is no memory for the answers, none is made.
-pub fn perform_all<B: Bus>(heap: Global, bus: &mut B, calls: &[Call]) -> Result<Vec<Answer>, AllocError>
+pub fn perform_all<B: Bus>(
+    heap: Global,
+    bus: &mut B,
+    calls: &[Call],
+) -> Result<Vec<Answer>, AllocError>
     ensures answers { λ r. ⌜ Cases r (λ v. vec-items v ≡ answersTo (byte (now (bus .entry))) (now (calls .entry))) (λ _. Unit {0}) ⌝ }
     ensures after { λ r. ⌜ Cases r (λ _. byte (now (bus .exit)) ≡ memoryThrough (byte (now (bus .entry))) (now (calls .entry))) (λ _. byte (now (bus .exit)) ≡ byte (now (bus .entry))) ⌝ }
     ensures kept { λ _. ⌜ layout (now (bus .exit)) ≡ layout (now (bus .entry)) ⌝ }

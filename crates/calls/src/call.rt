@@ -3,8 +3,15 @@ use bus::Refusal;
 
 #[derive(Clone, Copy)]
 pub enum Call {
-    Read { at: PhysAddr, width: u32 },
-    Write { at: PhysAddr, width: u32, value: u32 },
+    Read {
+        at: PhysAddr,
+        width: u32,
+    },
+    Write {
+        at: PhysAddr,
+        width: u32,
+        value: u32,
+    },
 }
 
 // What the bus answered, by the kind of call.

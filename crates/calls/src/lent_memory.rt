@@ -3,11 +3,11 @@ ghost use mathlib.Core.Path.{_≡_};
 ghost use Rattle.parts.specs.Parts.{bankCells};
 ghost use Rattle.calls.specs.Calls.{answerTo, memoryOf};
 ghost use Rattle.calls.specs.Laws.{Settled};
-use bus::Bus;
-use bus::PhysAddr;
+use crate::any_bus::perform;
 use crate::call::Answer;
 use crate::call::Call;
-use crate::any_bus::perform;
+use bus::Bus;
+use bus::PhysAddr;
 use parts::Bank;
 use parts::BankBus;
 

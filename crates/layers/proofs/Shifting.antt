@@ -93,7 +93,8 @@ module _ (f : Memory) (b n a w k : ℕ) (offset : Some k ≡ offsetIn b n a) whe
       written-same (cellsFrom b n f) (shiftCells b n f) (cellsFrom b n g) (shiftCells b n g) a w v (seen (movedBy b) (λ u. u) r) (sym (is f)) (is g)
       (record {
         answer = ap (seen (movedBy b) (λ u. u)) (h .answer) ∙ sym (ap answerOf (cells-write f b n a w k place v) ∙ seen-answer (movedBy b) (cellsFrom b n) (writeOf f k w v));
-        after = ap (cellsFrom b n) (h .after) ∙ sym (ap (memoryAfter (cellsFrom b n f)) (cells-write f b n a w k place v) ∙ seen-after (movedBy b) (cellsFrom b n) f (writeOf f k w v)) })
+        after = ap (cellsFrom b n) (h .after) ∙ sym (ap (memoryAfter (cellsFrom b n f)) (cells-write f b n a w k place v) ∙ seen-after (movedBy b) (cellsFrom b n) f (writeOf f k w v));
+      })
 
   pub unwritten-shown : (v : ℕ) (e e′ : Refusal) (g : Memory) → e′ ≡ movedBy b e → Written f k w v (Err e) g → Written (shiftCells b n f) a w v (Err e′) (shiftCells b n g)
   unwritten-shown v e e′ g p h =

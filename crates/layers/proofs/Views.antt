@@ -64,7 +64,7 @@ module _ (m f : Memory) (named : Refusal → Refusal) where
   value-shown a k (suc n) h = ap₂ (λ c v. held c + 256 * v) (first a k n h .cell) (value-shown (suc a) (suc k) n (later a k n h))
 
   tested-shown : {X Y : Type 0} (up : X → Y) (p : Cell → Bool) (refused : PhysAddr → Refusal) (pick : (a k : ℕ) → Shown m f named a k → refused (address a) ≡ named (refused (address k)))
-    → (a k n : ℕ) (r : Result X Refusal) → AllShown a k n → unlessAny p refused m a n (seen named up r) ≡ seen named up (unlessAny p refused f k n r)
+      → (a k n : ℕ) (r : Result X Refusal) → AllShown a k n → unlessAny p refused m a n (seen named up r) ≡ seen named up (unlessAny p refused f k n r)
   tested-shown up p refused pick a k zero r h = refl
   tested-shown up p refused pick a k (suc n) r h =
       ap₂ (λ c t. cond (p c) (Err (refused (address a))) t) (first a k n h .cell) (tested-shown up p refused pick (suc a) (suc k) n r (later a k n h))
@@ -129,4 +129,5 @@ module _ (t : ℕ → Cell → Cell) (f : Memory) (a w v : ℕ) (as-is : aligned
   pub written-over : (r : Result (Unit {0}) Refusal) (n : Memory) → Written f a w v r n → Written (over f) a w v r (over n)
   written-over r n h = record {
     answer = h .answer ∙ sym (ap answerOf write-over ∙ seen-answer (λ e. e) over (writeOf f a w v) ∙ seen-same (answerOf (writeOf f a w v)));
-    after = ap over (h .after) ∙ sym (ap (memoryAfter (over f)) write-over ∙ seen-after (λ e. e) over f (writeOf f a w v)) }
+    after = ap over (h .after) ∙ sym (ap (memoryAfter (over f)) write-over ∙ seen-after (λ e. e) over f (writeOf f a w v));
+  }

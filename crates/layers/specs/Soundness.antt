@@ -19,7 +19,8 @@ where-sound (Err e) m s = nothing-sound
 pub split-sound : (c : ℕ) (lo hi : Memory) → Sound lo → Sound hi → Sound (splitCells c lo hi)
 split-sound c lo hi p q = where-sound (borderCheck c) (sides c lo hi) (record {
   ends = λ a l. cond-both (ltb a c) (lo a) (hi a) (λ x. x ≡ absent) (λ _. p .ends a l) (λ _. q .ends a l);
-  bytes = λ a. cond-both (ltb a c) (lo a) (hi a) (λ x. held x < 256) (λ _. p .bytes a) (λ _. q .bytes a) })
+  bytes = λ a. cond-both (ltb a c) (lo a) (hi a) (λ x. held x < 256) (λ _. p .bytes a) (λ _. q .bytes a);
+})
 
 pub shift-sound : (b n : ℕ) (m : Memory) → Sound m → Sound (shiftCells b n m)
 shift-sound b n m p = part-sound b n m (p .bytes)
@@ -32,4 +33,5 @@ locked-byte (writable b) l = l
 pub lock-sound : (b n : ℕ) (m : Memory) → Sound m → Sound (lockCells b n m)
 lock-sound b n m p = where-sound (rangeCheck b n) (lockedFrom b n m) (record {
   ends = λ a l. cond-both (within b n a) (locked (m a)) (m a) (λ x. x ≡ absent) (λ _. ap locked (p .ends a l)) (λ _. p .ends a l);
-  bytes = λ a. cond-both (within b n a) (locked (m a)) (m a) (λ x. held x < 256) (λ _. locked-byte (m a) (p .bytes a)) (λ _. p .bytes a) })
+  bytes = λ a. cond-both (within b n a) (locked (m a)) (m a) (λ x. held x < 256) (λ _. locked-byte (m a) (p .bytes a)) (λ _. p .bytes a);
+})

@@ -1,7 +1,7 @@
 // Layers over any bus.
-pub mod split;
-pub mod shift;
 pub mod lock;
+pub mod shift;
+pub mod split;
 
 pub use lock::Lock;
 pub use lock::LockBus;

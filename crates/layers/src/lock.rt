@@ -25,7 +25,11 @@ impl<B: Bus> Lock<B> {
         ensures length { λ r. ⌜ r .length ≡ length ⌝ }
         ensures inner { λ r. ⌜ r .inner ≡ inner ⌝ }
     {
-        Lock { base, length, inner }
+        Lock {
+            base,
+            length,
+            inner,
+        }
     }
 }
 

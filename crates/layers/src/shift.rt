@@ -24,7 +24,11 @@ impl<B: Bus> Shift<B> {
         ensures length { λ r. ⌜ r .length ≡ length ⌝ }
         ensures inner { λ r. ⌜ r .inner ≡ inner ⌝ }
     {
-        Shift { base, length, inner }
+        Shift {
+            base,
+            length,
+            inner,
+        }
     }
 }
 

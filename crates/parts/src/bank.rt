@@ -5,13 +5,13 @@ ghost use denote.Ref.{now, name};
 ghost use Rattle.bus.specs.Memory.{readOf};
 ghost use Rattle.parts.specs.Parts.{bankCells, hiddenBytes};
 ghost use Rattle.parts.specs.Soundness.{bank-sound};
+use crate::bytes::store;
+use crate::lent;
 use bus::Bus;
 use bus::PhysAddr;
 use bus::Refusal;
 use bus::is_aligned;
 use bus::offset_in;
-use crate::bytes::store;
-use crate::lent;
 
 // The caller's memory, from a base on, open.
 #[derive(Drop)]

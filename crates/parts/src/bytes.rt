@@ -14,7 +14,10 @@ pub(crate) fn load(memory: &[u8], at: usize, width: u32) -> u32
     match width {
         1 => memory[at] as u32,
         2 => memory[at] as u32 + memory[at + 1] as u32 * 0x100,
-        _ => memory[at] as u32 + memory[at + 1] as u32 * 0x100 + memory[at + 2] as u32 * 0x1_0000 + memory[at + 3] as u32 * 0x100_0000,
+        _ => memory[at] as u32
+            + memory[at + 1] as u32 * 0x100
+            + memory[at + 2] as u32 * 0x1_0000
+            + memory[at + 3] as u32 * 0x100_0000,
     }
 }
 

@@ -4,12 +4,12 @@ ghost use mathlib.Core.List.{[], _∷_};
 ghost use denote.Ref.{now};
 ghost use Rattle.parts.specs.Parts.{imageCells};
 ghost use Rattle.parts.specs.Soundness.{image-sound};
+use crate::lent;
 use bus::Bus;
 use bus::PhysAddr;
 use bus::Refusal;
 use bus::is_aligned;
 use bus::offset_in;
-use crate::lent;
 
 // The caller's memory, from a base on, fixed.
 #[derive(Drop)]

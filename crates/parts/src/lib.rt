@@ -1,8 +1,8 @@
 // The parts at the bottom of a board.
-mod bytes;
-mod lent;
 pub mod bank;
+mod bytes;
 pub mod image;
+mod lent;
 pub mod ports;
 
 pub use bank::Bank;

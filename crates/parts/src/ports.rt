@@ -5,13 +5,13 @@ ghost use denote.Ref.{now};
 ghost use Rattle.bus.specs.Memory.{readOf};
 ghost use Rattle.parts.specs.Parts.{bankCells, portCells};
 ghost use Rattle.parts.specs.Soundness.{bank-sound};
+use crate::bytes::store;
+use crate::lent;
 use bus::Bus;
 use bus::PhysAddr;
 use bus::Refusal;
 use bus::is_aligned;
 use bus::offset_in;
-use crate::bytes::store;
-use crate::lent;
 
 const PORT_BYTES: usize = 64;
 
@@ -27,7 +27,10 @@ impl Ports {
         ensures cells { λ r. ⌜ bankCells (r .base .0) (r .cells) ≡ portCells (base .0) ⌝ }
         ensures base { λ r. ⌜ r .base ≡ base ⌝ }
     {
-        Ports { base, cells: [0; PORT_BYTES] }
+        Ports {
+            base,
+            cells: [0; PORT_BYTES],
+        }
     }
 
     // Through `&self`, since a shared loan of the cells out of `&mut self` would leave them unknown to the proof.

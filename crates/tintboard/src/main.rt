@@ -2,6 +2,8 @@
 mod show;
 mod table;
 
+use boards::Latch;
+use boards::LatchBus;
 use bus::Bus;
 use bus::PhysAddr;
 use bus::reference::ReferenceBus;
@@ -22,11 +24,15 @@ use parts::PortsBus;
 use std::error::AnyError;
 
 const RAM: PhysAddr = PhysAddr(0);
+
 const TABLE: PhysAddr = PhysAddr(0x40);
+
 const TABLE_BYTES: u64 = 0x10;
+
 const ROM: PhysAddr = PhysAddr(0x1c00_0000);
 // The window is twice as long as the port block that it shows.
 const DEVICES: PhysAddr = PhysAddr(0x1fe0_0000);
+
 const DEVICE_BYTES: u64 = 128;
 
 fn main(rt: LibcRuntime) -> Result<(), AnyError> {
@@ -46,6 +52,7 @@ fn run(rt: &LibcRuntime) -> Result<(), AnyError> {
     use_devices(rt, &mut board)?;
     try_refused(rt, &mut board)?;
     try_locked(rt, &mut board)?;
+    try_across(rt)?;
     try_unusable(rt)?;
     drop(board);
     keep_memory(rt)
@@ -71,13 +78,34 @@ fn read_back<B: Bus>(rt: &LibcRuntime, board: &mut B) -> Result<(), AnyError> {
         rt,
         board,
         &[
-            Call::Read { at: TABLE, width: 4 },
-            Call::Read { at: TABLE, width: 2 },
-            Call::Read { at: PhysAddr(0x42), width: 2 },
-            Call::Read { at: TABLE, width: 1 },
-            Call::Read { at: PhysAddr(0x41), width: 1 },
-            Call::Read { at: PhysAddr(0x42), width: 1 },
-            Call::Read { at: PhysAddr(0x43), width: 1 },
+            Call::Read {
+                at: TABLE,
+                width: 4,
+            },
+            Call::Read {
+                at: TABLE,
+                width: 2,
+            },
+            Call::Read {
+                at: PhysAddr(0x42),
+                width: 2,
+            },
+            Call::Read {
+                at: TABLE,
+                width: 1,
+            },
+            Call::Read {
+                at: PhysAddr(0x41),
+                width: 1,
+            },
+            Call::Read {
+                at: PhysAddr(0x42),
+                width: 1,
+            },
+            Call::Read {
+                at: PhysAddr(0x43),
+                width: 1,
+            },
         ],
     )
 }
@@ -90,10 +118,23 @@ fn use_devices<B: Bus>(rt: &LibcRuntime, board: &mut B) -> Result<(), AnyError> 
         board,
         &[
             Call::Read { at: ROM, width: 4 },
-            Call::Read { at: PhysAddr(0x1c00_0006), width: 2 },
-            Call::Read { at: DEVICES, width: 4 },
-            Call::Write { at: PhysAddr(0x1fe0_003c), width: 4, value: 0xcafe_f00d },
-            Call::Read { at: PhysAddr(0x1fe0_003e), width: 2 },
+            Call::Read {
+                at: PhysAddr(0x1c00_0006),
+                width: 2,
+            },
+            Call::Read {
+                at: DEVICES,
+                width: 4,
+            },
+            Call::Write {
+                at: PhysAddr(0x1fe0_003c),
+                width: 4,
+                value: 0xcafe_f00d,
+            },
+            Call::Read {
+                at: PhysAddr(0x1fe0_003e),
+                width: 2,
+            },
         ],
     )
 }
@@ -104,17 +145,53 @@ fn try_refused<B: Bus>(rt: &LibcRuntime, board: &mut B) -> Result<(), AnyError> 
         rt,
         board,
         &[
-            Call::Read { at: TABLE, width: 3 },
-            Call::Read { at: TABLE, width: 0 },
-            Call::Read { at: PhysAddr(0x42), width: 4 },
-            Call::Write { at: PhysAddr(0x41), width: 2, value: 1 },
-            Call::Read { at: PhysAddr(0x100), width: 4 },
-            Call::Write { at: PhysAddr(0x100), width: 1, value: 1 },
-            Call::Read { at: PhysAddr(0x1c00_0008), width: 4 },
-            Call::Write { at: PhysAddr(0x1c00_0002), width: 2, value: 1 },
-            Call::Read { at: PhysAddr(0x1fe0_0040), width: 4 },
-            Call::Read { at: PhysAddr(0x1fe0_0080), width: 4 },
-            Call::Read { at: PhysAddr(0xffff_fffc), width: 4 },
+            Call::Read {
+                at: TABLE,
+                width: 3,
+            },
+            Call::Read {
+                at: TABLE,
+                width: 0,
+            },
+            Call::Read {
+                at: PhysAddr(0x42),
+                width: 4,
+            },
+            Call::Write {
+                at: PhysAddr(0x41),
+                width: 2,
+                value: 1,
+            },
+            Call::Read {
+                at: PhysAddr(0x100),
+                width: 4,
+            },
+            Call::Write {
+                at: PhysAddr(0x100),
+                width: 1,
+                value: 1,
+            },
+            Call::Read {
+                at: PhysAddr(0x1c00_0008),
+                width: 4,
+            },
+            Call::Write {
+                at: PhysAddr(0x1c00_0002),
+                width: 2,
+                value: 1,
+            },
+            Call::Read {
+                at: PhysAddr(0x1fe0_0040),
+                width: 4,
+            },
+            Call::Read {
+                at: PhysAddr(0x1fe0_0080),
+                width: 4,
+            },
+            Call::Read {
+                at: PhysAddr(0xffff_fffc),
+                width: 4,
+            },
             Call::Read { at: ROM, width: 4 },
         ],
     )
@@ -122,7 +199,11 @@ fn try_refused<B: Bus>(rt: &LibcRuntime, board: &mut B) -> Result<(), AnyError> 
 
 // The board, lent to a lock over the table, and then again without it.
 fn try_locked<B: Bus + Drop>(rt: &LibcRuntime, board: &mut B) -> Result<(), AnyError> {
-    let again = Call::Write { at: TABLE, width: 1, value: 0x63 };
+    let again = Call::Write {
+        at: TABLE,
+        width: 1,
+        value: 0x63,
+    };
     println!(rt, "table locked")?;
     let mut locked = Lock::new(TABLE, TABLE_BYTES, &mut *board);
     show::calls(
@@ -130,16 +211,80 @@ fn try_locked<B: Bus + Drop>(rt: &LibcRuntime, board: &mut B) -> Result<(), AnyE
         &mut locked,
         &[
             again,
-            Call::Read { at: TABLE, width: 1 },
-            Call::Write { at: PhysAddr(0x42), width: 4, value: 1 },
-            Call::Write { at: PhysAddr(0x50), width: 4, value: 0x1234_5678 },
-            Call::Write { at: ROM, width: 4, value: 1 },
-            Call::Write { at: PhysAddr(0x100), width: 4, value: 1 },
+            Call::Read {
+                at: TABLE,
+                width: 1,
+            },
+            Call::Write {
+                at: PhysAddr(0x42),
+                width: 4,
+                value: 1,
+            },
+            Call::Write {
+                at: PhysAddr(0x50),
+                width: 4,
+                value: 0x1234_5678,
+            },
+            Call::Write {
+                at: ROM,
+                width: 4,
+                value: 1,
+            },
+            Call::Write {
+                at: PhysAddr(0x100),
+                width: 4,
+                value: 1,
+            },
         ],
     )?;
     drop(locked);
     println!(rt, "table open again")?;
-    show::calls(rt, board, &[again, Call::Read { at: TABLE, width: 4 }])
+    show::calls(
+        rt,
+        board,
+        &[
+            again,
+            Call::Read {
+                at: TABLE,
+                width: 4,
+            },
+        ],
+    )
+}
+
+// A device whose bytes are not all alike: a refusal names the lowest byte at fault, and not the address of the call.
+fn try_across(rt: &LibcRuntime) -> Result<(), AnyError> {
+    println!(rt, "across a device's end")?;
+    let mut window = Shift::new(PhysAddr(0x1fe0_0100), 4, Latch::new(0x42));
+    show::calls(
+        rt,
+        &mut window,
+        &[
+            Call::Write {
+                at: PhysAddr(0x1fe0_0100),
+                width: 1,
+                value: 5,
+            },
+            Call::Read {
+                at: PhysAddr(0x1fe0_0100),
+                width: 2,
+            },
+            Call::Write {
+                at: PhysAddr(0x1fe0_0100),
+                width: 2,
+                value: 5,
+            },
+            Call::Read {
+                at: PhysAddr(0x1fe0_0100),
+                width: 4,
+            },
+            Call::Write {
+                at: PhysAddr(0x1fe0_0100),
+                width: 4,
+                value: 5,
+            },
+        ],
+    )
 }
 
 // Parts that are made of refused numbers all the same.
@@ -147,18 +292,37 @@ fn try_unusable(rt: &LibcRuntime) -> Result<(), AnyError> {
     println!(rt, "made of refused numbers")?;
     let mut ram = [0u8; 8];
     let mut bank = Bank::new(PhysAddr(2), &mut ram);
-    show::calls(rt, &mut bank, &[Call::Read { at: PhysAddr(4), width: 4 }])?;
+    show::calls(
+        rt,
+        &mut bank,
+        &[Call::Read {
+            at: PhysAddr(4),
+            width: 4,
+        }],
+    )?;
     let mut lock = Lock::new(RAM, 6, Ports::new(RAM));
     show::calls(rt, &mut lock, &[Call::Read { at: RAM, width: 4 }])?;
     let mut split = Split::new(PhysAddr(6), Ports::new(RAM), Ports::new(RAM));
-    show::calls(rt, &mut split, &[Call::Write { at: RAM, width: 4, value: 1 }])
+    show::calls(
+        rt,
+        &mut split,
+        &[Call::Write {
+            at: RAM,
+            width: 4,
+            value: 1,
+        }],
+    )
 }
 
 // A call on a bank that ends with it, and what the memory holds then.
 fn keep_memory(rt: &LibcRuntime) -> Result<(), AnyError> {
     println!(rt, "memory afterwards")?;
     let mut memory = [0x11u8; 8];
-    let call = Call::Write { at: PhysAddr(0x1002), width: 2, value: 0xbeef };
+    let call = Call::Write {
+        at: PhysAddr(0x1002),
+        width: 2,
+        value: 0xbeef,
+    };
     show::call(rt, call)?;
     show::answer(rt, perform_in_memory(PhysAddr(0x1000), &mut memory, call))?;
     print!(rt, "memory:")?;

@@ -21,14 +21,14 @@ fn made(rt: &LibcRuntime, checked: Result<(), BoardRefusal>) -> io::Result<()> {
     }
 }
 
-pub fn range(rt: &LibcRuntime, base: PhysAddr, length: u64) -> Result<(), AnyError> {
+pub(crate) fn range(rt: &LibcRuntime, base: PhysAddr, length: u64) -> Result<(), AnyError> {
     let from = base.0;
     print!(rt, "range 0x{from:08X} 0x{length:X}: ")?;
     made(rt, check_range(base, length))?;
     Ok(())
 }
 
-pub fn border(rt: &LibcRuntime, border: PhysAddr) -> Result<(), AnyError> {
+pub(crate) fn border(rt: &LibcRuntime, border: PhysAddr) -> Result<(), AnyError> {
     let at = border.0;
     print!(rt, "border 0x{at:08X}: ")?;
     made(rt, check_border(border))?;
@@ -46,7 +46,7 @@ fn refused(rt: &LibcRuntime, refusal: Refusal) -> io::Result<()> {
     }
 }
 
-pub fn call(rt: &LibcRuntime, call: Call) -> io::Result<()> {
+pub(crate) fn call(rt: &LibcRuntime, call: Call) -> io::Result<()> {
     match call {
         Call::Read { at, width } => {
             let address = at.0;
@@ -59,7 +59,7 @@ pub fn call(rt: &LibcRuntime, call: Call) -> io::Result<()> {
     }
 }
 
-pub fn answer(rt: &LibcRuntime, answer: Answer) -> io::Result<()> {
+pub(crate) fn answer(rt: &LibcRuntime, answer: Answer) -> io::Result<()> {
     match answer {
         Answer::Read(Ok(value)) => println!(rt, "0x{value:X}"),
         Answer::Write(Ok(())) => println!(rt, "done"),
@@ -68,7 +68,7 @@ pub fn answer(rt: &LibcRuntime, answer: Answer) -> io::Result<()> {
 }
 
 // Makes the calls on the bus, and prints each with its answer.
-pub fn calls<B: Bus>(rt: &LibcRuntime, bus: &mut B, list: &[Call]) -> Result<(), AnyError> {
+pub(crate) fn calls<B: Bus>(rt: &LibcRuntime, bus: &mut B, list: &[Call]) -> Result<(), AnyError> {
     let answers = perform_all(rt.alloc(), bus, list)?;
     for (asked, told) in list.iter().zip(answers.iter()) {
         call(rt, *asked)?;

@@ -15,10 +15,22 @@ struct Tint {
 const ROW_BYTES: u32 = 4;
 
 const ROWS: [Tint; 4] = [
-    Tint { colorant: 7, shots: 312 },
-    Tint { colorant: 12, shots: 45 },
-    Tint { colorant: 3, shots: 1020 },
-    Tint { colorant: 25, shots: 4 },
+    Tint {
+        colorant: 7,
+        shots: 312,
+    },
+    Tint {
+        colorant: 12,
+        shots: 45,
+    },
+    Tint {
+        colorant: 3,
+        shots: 1020,
+    },
+    Tint {
+        colorant: 25,
+        shots: 4,
+    },
 ];
 
 // Writes a row, and reads back what the bus then holds of it.
@@ -29,13 +41,16 @@ fn store<B: Bus>(board: &mut B, at: PhysAddr, row: Tint) -> Result<(u32, u32), R
 }
 
 // Loads the table from `at` on, a line of text for each row.
-pub fn load<B: Bus>(rt: &LibcRuntime, board: &mut B, at: PhysAddr) -> Result<(), AnyError> {
+pub(crate) fn load<B: Bus>(rt: &LibcRuntime, board: &mut B, at: PhysAddr) -> Result<(), AnyError> {
     println!(rt, "tint table")?;
     let mut place = at;
     for row in ROWS {
         let address = place.0;
         match store(board, place, row) {
-            Ok((colorant, shots)) => println!(rt, "row 0x{address:08X}: colorant {colorant}, {shots} shots")?,
+            Ok((colorant, shots)) => println!(
+                rt,
+                "row 0x{address:08X}: colorant {colorant}, {shots} shots"
+            )?,
             Err(refusal) => {
                 let number = refusal.number();
                 println!(rt, "row 0x{address:08X}: refused {number}")?

@@ -8,12 +8,13 @@ use Rattle.calls.proofs.any_bus.ask_all.Needs as need
 pub loop-call-again : need.loop-call-again
 loop-call-again g c =
     let m = g .B·Bus .byte (c .loop-call .bus) in
-    let n = g .B·Bus .byte (c .ask-answer .last .bus) in
-    (answers-more (c .args .calls .now) (c .loop-call .call-index) _ m n (c .ask-answer .ensures .after) (c .ask-answer .result) (vec-items (c .loop-call .answers)) (vec-items (c .push-reserved .last .self)) (answersTo (g .B·Bus .byte (c .args .bus .now)) (c .args .calls .now)) (c .loop-call-test .taken) (c .ask-answer .ensures .answer) (c .push-reserved .ensures .items) (c .loop-call .inv .0),
-     memory-more (c .args .calls .now) (c .loop-call .call-index) _ m n (c .ask-answer .ensures .after) (memoryThrough (g .B·Bus .byte (c .args .bus .now)) (c .args .calls .now)) (c .loop-call-test .taken) (c .loop-call .inv .1),
-     c .ask-answer .ensures .kept ∙ c .loop-call .inv .2,
-     omega arith,
-     omega arith)
+    let n = g .B·Bus .byte (c .ask-answer .last .bus) in (
+      answers-more (c .args .calls .now) (c .loop-call .call-index) _ m n (c .ask-answer .ensures .after) (c .ask-answer .result) (vec-items (c .loop-call .answers)) (vec-items (c .push-reserved .last .self)) (answersTo (g .B·Bus .byte (c .args .bus .now)) (c .args .calls .now)) (c .loop-call-test .taken) (c .ask-answer .ensures .answer) (c .push-reserved .ensures .items) (c .loop-call .inv .0),
+      memory-more (c .args .calls .now) (c .loop-call .call-index) _ m n (c .ask-answer .ensures .after) (memoryThrough (g .B·Bus .byte (c .args .bus .now)) (c .args .calls .now)) (c .loop-call-test .taken) (c .loop-call .inv .1),
+      c .ask-answer .ensures .kept ∙ c .loop-call .inv .2,
+      omega arith,
+      omega arith,
+    )
 
 pub returns : need.returns
 returns g c =

@@ -15,9 +15,9 @@ returns c =
     let same-name : t .memory .name ≡ s .memory .name = same .1 in
     let same-base : t .base .0 ≡ b = same .0 ∙ ap (λ p. p .0) (c .new-bank .ensures .base) in
     let meant : bankCells b (t .memory .now) ≡ memoryOf (bankCells b xs) (c .args .call)
-              = ap (λ n. bankCells n (t .memory .now)) (sym same-base) ∙ c .perform .ensures .after ∙ ap (λ m. memoryOf m (c .args .call)) (c .new-bank .ensures .cells) in
+    = ap (λ n. bankCells n (t .memory .now)) (sym same-base) ∙ c .perform .ensures .after ∙ ap (λ m. memoryOf m (c .args .call)) (c .new-bank .ensures .cells) in
     let hidden : hiddenBytes b (t .memory .now) ≡ hiddenBytes b xs
-               = ap (λ n. hiddenBytes n (t .memory .now)) (sym same-base) ∙ same .2 ∙ (λ i. hiddenBytes (c .new-bank .ensures .base i .0) (c .new-bank .ensures .memory i)) in
+    = ap (λ n. hiddenBytes n (t .memory .now)) (sym same-base) ∙ same .2 ∙ (λ i. hiddenBytes (c .new-bank .ensures .base i .0) (c .new-bank .ensures .memory i)) in
     record {
       answer = c .perform .ensures .answer ∙ ap (λ m. answerTo m (c .args .call)) (c .new-bank .ensures .cells);
       after = grind (arith, same-name, meant);
