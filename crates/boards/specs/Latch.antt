@@ -1,11 +1,11 @@
 -- What a latch holds.
-use mathlib.Core.Path.{_≡_, _∙_}
+use mathlib.Core.Path.{_∙_}
 use mathlib.Core.Bool.{cond}
-use Prim.Native.Nat.{ℕ, _%_, _^_, _≤_, _<_}
+use Prim.Native.Nat.{ℕ, _%_, _<_}
 use native.Mathlib.Omega.{arith}
 use lib.Dec.{eqb, lit<}
 use Rattle.std.proofs.shelf.Tests.{cond-false, cond-both, ne-eqb}
-use Rattle.bus.specs.Cell.{Cell, absent, fixed, writable}
+use Rattle.bus.specs.Cell.{absent, fixed, writable}
 use Rattle.bus.specs.Memory.{Memory, Sound, held}
 
 -- the setting at 0, open, and the model at 1, fixed

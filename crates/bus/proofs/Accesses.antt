@@ -1,9 +1,9 @@
 -- What an aligned access meets, over any memory.
 use mathlib.Core.Path.{_≡_, refl, sym, ap, _∙_}
-use mathlib.Core.Bool.{Bool, true, false, not, cond, _&&_, _||_}
-use Prim.Native.Nat.{ℕ, zero, suc, _+_, _-_, _*_, _%_, _^_, _≤_, _<_}
+use mathlib.Core.Bool.{Bool, true, false, not, cond, _&&_}
+use Prim.Native.Nat.{ℕ, zero, suc, _+_, _-_, _%_, _^_, _≤_, _<_}
 use native.Mathlib.Omega.{arith}
-use lib.Dec.{eqb, leb, ltb}
+use lib.Dec.{eqb, leb}
 use Rattle.std.proofs.shelf.Ways.{tells}
 use Rattle.std.proofs.shelf.Tests.{cond-true, cond-false}
 use Rattle.std.specs.declared.option.Option.the-variants.{Some, None}
@@ -12,10 +12,10 @@ use Rattle.std.specs.declared.result.Result.the-variants.{Ok, Err}
 use Rattle.bus.specs.declared.address.PhysAddr.{PhysAddr}
 use Rattle.bus.specs.declared.refusal.BoardRefusal.{BoardRefusal}
 use Rattle.bus.specs.declared.refusal.Refusal.{Refusal}
-use Rattle.bus.specs.declared.refusal.Refusal.the-variants.{Misaligned, Absent, Fixed}
-use Rattle.bus.specs.Cell.{Cell, absent, fixed, writable}
+use Rattle.bus.specs.declared.refusal.Refusal.the-variants.{Absent, Fixed}
+use Rattle.bus.specs.Cell.{Cell, writable}
 use Rattle.bus.specs.Board.{rangeCheck, whereAccepted, offsetWhere, cellsFrom, partCells, offsetIn}
-use Rattle.bus.specs.Memory.{Memory, isWidth, aligned, within, isAbsent, isFixed, unlessAny, writeOf, answerOf, memoryAfter, put}
+use Rattle.bus.specs.Memory.{Memory, aligned, within, isAbsent, isFixed, unlessAny, writeOf, answerOf, memoryAfter, put}
 
 pub within-bounds : (a n x : ℕ) → within a n x ≡ true → (a ≤ x) × (x < a + n)
 within-bounds a n x e = grind (arith, tells)
@@ -32,7 +32,6 @@ module _ (b n a w x : ℕ) (even-base : b % 4 ≡ 0) (even-length : n % 4 ≡ 0)
 pub record Accepted (b n : ℕ) : Type 0 where
   pub even-base : b % 4 ≡ 0
   pub even-length : n % 4 ≡ 0
-  pub some : 0 < n
   pub inside : b + n ≤ 2 ^ 32
   pub checked : rangeCheck b n ≡ Ok tt
 
@@ -40,7 +39,7 @@ pub accepted : (b n : ℕ) → rangeCheck b n ≡ Ok tt → Accepted b n
 accepted b n e = go (eqb (b % 4) 0 && (eqb (n % 4) 0 && not (eqb n 0))) refl (leb (b + n) (2 ^ 32)) refl
   where
     go : (t : Bool) → (eqb (b % 4) 0 && (eqb (n % 4) 0 && not (eqb n 0))) ≡ t → (u : Bool) → leb (b + n) (2 ^ 32) ≡ u → Accepted b n
-    go true p true q = record { even-base = grind (arith, tells); even-length = grind (arith, tells); some = grind (arith, tells); inside = grind (arith, tells); checked = e }
+    go true p true q = record { even-base = grind (arith, tells); even-length = grind (arith, tells); inside = grind (arith, tells); checked = e }
     go true p false q = let z : _≡_ {A = ℕ} 0 1 = grind (arith, tells) in absurd (omega arith)
     go false p u q = let z : _≡_ {A = ℕ} 0 1 = grind (arith, tells) in absurd (omega arith)
 

@@ -1,20 +1,26 @@
 -- That a read and a write answer by the rules.
 use mathlib.Core.Path.{_≡_, refl, sym, ap, subst, _∙_}
-use mathlib.Core.Bool.{Bool, true, false, cond, _&&_}
+use mathlib.Core.Bool.{Bool, true, false}
 use mathlib.Core.Logic.{_⊎_, inl, inr, ⊎-elim}
-use Prim.Native.Nat.{ℕ, zero, suc, _+_, _-_, _≤_, _<_}
+use Prim.Native.Nat.{ℕ, zero, suc, _-_, _≤_, _<_}
 use native.Mathlib.Omega.{arith}
-use lib.Dec.{leb, ltb}
+use lib.Dec.{leb}
 use Rattle.std.proofs.shelf.Ways.{tells}
 use Rattle.std.proofs.shelf.Tests.{cond-true, cond-false}
 use Rattle.std.specs.declared.result.Result.{Result}
 use Rattle.std.specs.declared.result.Result.the-variants.{Ok, Err}
 use Rattle.bus.specs.declared.address.PhysAddr.{PhysAddr}
 use Rattle.bus.specs.declared.refusal.Refusal.{Refusal}
-use Rattle.bus.specs.declared.refusal.Refusal.the-variants.{Misaligned, Absent, Fixed}
+use Rattle.bus.specs.declared.refusal.Refusal.the-variants.{Absent, Fixed}
 use Rattle.bus.specs.Cell.{Cell}
-use Rattle.bus.specs.Memory.{Memory, address, isAbsent, isFixed, unlessAny, aligned, within, byteOf, valueAt, readOf, writeOf, answerOf, memoryAfter, put}
+use Rattle.bus.specs.Memory.{Memory, address, isAbsent, isFixed, unlessAny, aligned, within, valueAt, readOf, writeOf, answerOf, memoryAfter, put}
 use Rattle.bus.specs.Rules.{Names, NoneNamed, LowestNamed, ReadRule, misaligned, missing, value, Replaced, WriteRule, unwritable, written}
+
+pub within-names : (a w x : ℕ) → within a w x ≡ true → Names a w x
+within-names a w x e = grind (arith, tells)
+
+pub without-names : (a w x : ℕ) → within a w x ≡ false → Names a w x → ⊥
+without-names a w x e l = let z : _≡_ {A = ℕ} 0 1 = grind (arith, tells) in omega arith
 
 -- a scan passes where p is true of no cell, and else refuses the lowest
 abbrev Passes : {X : Type 0} → (Cell → Bool) → (PhysAddr → Refusal) → Memory → ℕ → ℕ → Result X Refusal → Type 0

@@ -1,16 +1,13 @@
 -- That a part keeps to the addresses there are and holds bytes.
-use mathlib.Core.Path.{_≡_, refl, sym, _∙_}
-use mathlib.Core.Bool.{Bool, true, false, not, cond, _&&_}
+use mathlib.Core.Path.{refl}
+use mathlib.Core.Bool.{not, _&&_}
 use Prim.Native.Nat.{ℕ, _+_, _-_, _%_, _^_, _≤_, _<_}
 use native.Mathlib.Omega.{arith}
 use lib.Dec.{eqb, leb, ltb, lit<}
-use Rattle.std.proofs.shelf.Tests.{cond-true, cond-false, cond-both, and-right, le-ltb, leb-true}
-use Rattle.std.specs.declared.result.Result.{Result}
-use Rattle.std.specs.declared.result.Result.the-variants.{Ok, Err}
-use Rattle.bus.specs.declared.refusal.BoardRefusal.{BoardRefusal}
+use Rattle.std.proofs.shelf.Tests.{cond-false, cond-both, and-right, le-ltb, leb-true}
 use Rattle.bus.specs.Cell.{Cell, absent}
-use Rattle.bus.specs.Memory.{Memory, Sound, held, within}
-use Rattle.bus.specs.Board.{rangeCheck, nothing, whereAccepted, cellsFrom, partCells}
+use Rattle.bus.specs.Memory.{Sound, held, within}
+use Rattle.bus.specs.Board.{nothing, whereAccepted, cellsFrom, partCells}
 
 pub nothing-sound : Sound nothing
 nothing-sound = record { ends = λ a p. refl; bytes = λ a. lit< tt }

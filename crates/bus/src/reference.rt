@@ -1,5 +1,4 @@
 // A bus that is lent is a bus.
-ghost use mathlib.Core.Path.{_≡_};
 ghost use mathlib.Core.List.{_∷_};
 ghost use denote.Ref.{now, name};
 use crate::Bus;

@@ -1,10 +1,9 @@
 -- What no list of calls changes.
 use mathlib.Core.Path.{_≡_, refl, sym, ap, subst, _∙_}
-use mathlib.Core.Bool.{Bool, true, false, cond, _&&_, _||_}
+use mathlib.Core.Bool.{Bool, true, false}
 use mathlib.Core.List.{List, [], _∷_}
-use Prim.Native.Nat.{ℕ, _+_, _-_, _<_, _≤_}
+use Prim.Native.Nat.{ℕ, _-_}
 use native.Mathlib.Omega.{arith}
-use lib.Dec.{leb, ltb}
 use Rattle.std.proofs.shelf.Ways.{tells}
 use Rattle.std.proofs.shelf.Tests.{or-parts, both-ways}
 use Rattle.std.specs.declared.result.Result.{Result}
@@ -13,10 +12,10 @@ use Rattle.std.specs.Results.{Cases}
 use Rattle.bus.specs.declared.refusal.Refusal.{Refusal}
 use Rattle.bus.specs.Memory.{Memory, isAbsent, isFixed, within, writeOf, answerOf, memoryAfter}
 use Rattle.bus.specs.Rules.{Names, NoneNamed, Replaced, WriteRule, misaligned, missing, unwritable, written}
-use Rattle.bus.proofs.Ruling.{write-rule}
+use Rattle.bus.proofs.Ruling.{within-names, without-names, write-rule}
 use Rattle.calls.specs.declared.call.Call.{Call}
 use Rattle.calls.specs.declared.call.Call.the-variants.{Read, Write}
-use Rattle.calls.specs.Calls.{memoryOf, memoryThrough}
+use Rattle.calls.specs.Calls.{memoryThrough}
 use Rattle.calls.specs.Laws.{writes, Lasting}
 
 -- what a write of w bytes at a does not change
@@ -30,31 +29,25 @@ unchanged : (m : Memory) (a w : ℕ) → Once m a w m
 unchanged m a w = record { unnamed = λ x e. refl; kept = λ x e. refl; absence = λ x. refl; fixity = λ x. refl }
 
 module _ (m : Memory) (a w v : ℕ) where
-  names : (x : ℕ) → within a w x ≡ true → Names a w x
-  names x e = grind (arith, tells)
-
-  unnames : (x : ℕ) → within a w x ≡ false → Names a w x → ⊥
-  unnames x e l = let z : _≡_ {A = ℕ} 0 1 = grind (arith, tells) in omega arith
-
   replaced-once : (n : Memory) → NoneNamed isAbsent m a w → NoneNamed isFixed m a w → Replaced m a w v n → Once m a w n
   replaced-once n here free r = record {
-    unnamed = λ x e. r .others x (unnames x e);
+    unnamed = λ x e. r .others x (without-names a w x e);
     kept = λ x e. kept-at x (within a w x) refl e;
     absence = λ x. absence-at x (within a w x) refl;
     fixity = λ x. fixity-at x (within a w x) refl;
   }
     where
       kept-at : (x : ℕ) (t : Bool) → within a w x ≡ t → isFixed (m x) ≡ true → n x ≡ m x
-      kept-at x true e q = absurd (both-ways (isFixed (m x)) (free x (names x e)) q)
-      kept-at x false e q = r .others x (unnames x e)
+      kept-at x true e q = absurd (both-ways (isFixed (m x)) (free x (within-names a w x e)) q)
+      kept-at x false e q = r .others x (without-names a w x e)
 
       absence-at : (x : ℕ) (t : Bool) → within a w x ≡ t → isAbsent (n x) ≡ isAbsent (m x)
-      absence-at x true e = ap isAbsent (r .named x (names x e)) ∙ sym (here x (names x e))
-      absence-at x false e = ap isAbsent (r .others x (unnames x e))
+      absence-at x true e = ap isAbsent (r .named x (within-names a w x e)) ∙ sym (here x (within-names a w x e))
+      absence-at x false e = ap isAbsent (r .others x (without-names a w x e))
 
       fixity-at : (x : ℕ) (t : Bool) → within a w x ≡ t → isFixed (n x) ≡ isFixed (m x)
-      fixity-at x true e = ap isFixed (r .named x (names x e)) ∙ sym (free x (names x e))
-      fixity-at x false e = ap isFixed (r .others x (unnames x e))
+      fixity-at x true e = ap isFixed (r .named x (within-names a w x e)) ∙ sym (free x (within-names a w x e))
+      fixity-at x false e = ap isFixed (r .others x (without-names a w x e))
 
   ruled-once : (r : Result (Unit {0}) Refusal) (n : Memory) → WriteRule m a w v r n → Once m a w n
   ruled-once r n (misaligned e) = unchanged m a w

@@ -1,9 +1,8 @@
 -- An access to a shift is one to the bus below, base lower.
 use mathlib.Core.Path.{_≡_, refl, sym, ap, _∙_, fun-ext}
-use mathlib.Core.Bool.{Bool, true, false, cond, _&&_, _||_}
+use mathlib.Core.Bool.{Bool, true, false, cond}
 use Prim.Native.Nat.{ℕ, _+_, _-_, _%_, _^_, _≤_, _<_}
 use native.Mathlib.Omega.{arith}
-use lib.Dec.{eqb, leb, ltb}
 use Rattle.std.proofs.shelf.Ways.{tells}
 use Rattle.std.proofs.shelf.Tests.{cond-true, cond-false}
 use Rattle.std.specs.declared.option.Option.the-variants.{Some}
@@ -16,7 +15,7 @@ use Rattle.bus.specs.Memory.{Memory, address, aligned, within, byteOf, readOf, 
 use Rattle.bus.specs.Board.{cellsFrom, offsetIn}
 use Rattle.bus.proofs.Accesses.{within-bounds, stays-inside, Found, offset-found, part-is, Written, written-same}
 use Rattle.layers.specs.Layers.{shiftCells, movedBy}
-use Rattle.layers.proofs.Views.{seen, Shown, AllShown, read-seen, write-seen, seen-answer, seen-after}
+use Rattle.layers.proofs.Views.{seen, AllShown, read-seen, write-seen, seen-answer, seen-after}
 
 module _ (f : Memory) (b n a w k : ℕ) (place : Found b n a k) where
   starts : (b ≤ a) × (a < b + n)

@@ -1,9 +1,9 @@
 -- A write to a split is one to the side that it begins on.
-use mathlib.Core.Path.{_≡_, ap, sym, _∙_}
-use mathlib.Core.Bool.{Bool, true, false, cond, _&&_, _||_}
-use Prim.Native.Nat.{ℕ, _+_, _%_, _≤_, _<_}
+use mathlib.Core.Path.{_≡_, ap, sym}
+use mathlib.Core.Bool.{true, false, cond}
+use Prim.Native.Nat.{ℕ, _%_, _≤_, _<_}
 use native.Mathlib.Omega.{arith}
-use lib.Dec.{eqb, leb, ltb}
+use lib.Dec.{eqb, ltb}
 use Rattle.std.proofs.shelf.Ways.{tells}
 use Rattle.std.proofs.shelf.Tests.{cond-true, cond-false, eq-eqb}
 use Rattle.std.specs.declared.result.Result.{Result}
@@ -11,7 +11,7 @@ use Rattle.std.specs.declared.result.Result.the-variants.{Ok, Err}
 use Rattle.bus.specs.declared.refusal.Refusal.{Refusal}
 use Rattle.bus.specs.declared.refusal.BoardRefusal.the-variants.{Uneven}
 use Rattle.bus.specs.Memory.{Memory, aligned, within}
-use Rattle.bus.specs.Board.{borderCheck, whereAccepted}
+use Rattle.bus.specs.Board.{whereAccepted}
 use Rattle.bus.proofs.Accesses.{Written, written-same}
 use Rattle.layers.specs.Layers.{sides, splitCells}
 use Rattle.layers.proofs.Views.{written-over}

@@ -1,9 +1,8 @@
 -- An access to a layer is answered as one to the bus below, where the layer shows that bus's cells and names their addresses its own way.
 use mathlib.Core.Path.{_≡_, refl, sym, ap, ap₂, subst, _∙_, fun-ext}
-use mathlib.Core.Bool.{Bool, true, false, cond, _&&_}
-use Prim.Native.Nat.{ℕ, zero, suc, _+_, _-_, _*_, _≤_, _<_}
+use mathlib.Core.Bool.{Bool, true, false, cond}
+use Prim.Native.Nat.{ℕ, zero, suc, _+_, _-_, _*_, _<_}
 use native.Mathlib.Omega.{arith}
-use lib.Dec.{leb, ltb}
 use Rattle.std.proofs.shelf.Ways.{tells}
 use Rattle.std.proofs.shelf.Tests.{cond-true, cond-false}
 use Rattle.std.specs.declared.result.Result.{Result}
@@ -12,7 +11,7 @@ use Rattle.bus.specs.declared.address.PhysAddr.{PhysAddr}
 use Rattle.bus.specs.declared.refusal.Refusal.{Refusal}
 use Rattle.bus.specs.declared.refusal.Refusal.the-variants.{Misaligned, Absent, Fixed}
 use Rattle.bus.specs.Cell.{Cell}
-use Rattle.bus.specs.Memory.{Memory, address, held, aligned, within, byteOf, isAbsent, isFixed, unlessAny, valueAt, readOf, writeOf, answerOf, memoryAfter, put}
+use Rattle.bus.specs.Memory.{Memory, address, held, aligned, within, isAbsent, isFixed, unlessAny, valueAt, readOf, writeOf, answerOf, memoryAfter, put}
 use Rattle.bus.proofs.Accesses.{Written}
 
 -- an answer of the bus below, as the layer gives it on

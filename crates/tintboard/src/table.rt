@@ -1,4 +1,6 @@
 // The tint table: four bytes a row, the colorant in the first and the shots in the upper two.
+ghost use mathlib.Core.Path.{_≡_};
+ghost use Rattle.std.specs.Results.{Cases};
 use bus::Bus;
 use bus::PhysAddr;
 use bus::Refusal;
@@ -33,11 +35,16 @@ const ROWS: [Tint; 4] = [
     },
 ];
 
-// Writes a row, and reads back what the bus then holds of it.
-fn store<B: Bus>(board: &mut B, at: PhysAddr, row: Tint) -> Result<(u32, u32), Refusal> {
+// Writes a row, and gives the row that the bus then holds: the same.
+fn store<B: Bus>(board: &mut B, at: PhysAddr, row: Tint) -> Result<Tint, Refusal>
+    ensures { λ r. ⌜ Cases r (λ stored. stored ≡ row) (λ _. Unit {0}) ⌝ }
+{
     let colorant = write_verified(board, at, 1, row.colorant as u32)?;
     let shots = write_verified(board, PhysAddr(at.0.wrapping_add(2)), 2, row.shots as u32)?;
-    Ok((colorant, shots))
+    Ok(Tint {
+        colorant: colorant as u8,
+        shots: shots as u16,
+    })
 }
 
 // Loads the table from `at` on, a line of text for each row.
@@ -47,7 +54,7 @@ pub(crate) fn load<B: Bus>(rt: &LibcRuntime, board: &mut B, at: PhysAddr) -> Res
     for row in ROWS {
         let address = place.0;
         match store(board, place, row) {
-            Ok((colorant, shots)) => println!(
+            Ok(Tint { colorant, shots }) => println!(
                 rt,
                 "row 0x{address:08X}: colorant {colorant}, {shots} shots"
             )?,
