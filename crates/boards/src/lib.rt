@@ -1,4 +1,4 @@
-// Boards put together of every part and layer, and of a device that is none of them.
+// A device that is none of the parts, as a maker would write one, and tests over whole boards.
 pub mod latch;
 
 pub use latch::Latch;

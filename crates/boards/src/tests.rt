@@ -6,6 +6,7 @@ use bus::Refusal;
 use bus::reference::ReferenceBus;
 use bus::refusal::RefusalDebug;
 use bus::refusal::RefusalPartialEq;
+use calls::Answer;
 use calls::Call;
 use calls::perform_in_memory;
 use layers::Lock;
@@ -93,8 +94,13 @@ fn memory_around_a_write() -> Result<(), Fail> {
         width: 2,
         value: 0x1234_5678,
     };
-    let _ = perform_in_memory(PhysAddr(0x100), &mut memory, write);
+    let done = perform_in_memory(PhysAddr(0x100), &mut memory, write);
+    check(matches!(done, Answer::Write(Ok(()))))?;
     check_eq(memory, [0xaa, 0xaa, 0x78, 0x56, 0xaa, 0xaa, 0xaa, 0xaa])?;
-    let _ = perform_in_memory(PhysAddr(0x101), &mut memory, write);
+    let refused = perform_in_memory(PhysAddr(0x101), &mut memory, write);
+    check(matches!(
+        refused,
+        Answer::Write(Err(Refusal::Absent(PhysAddr(0x102))))
+    ))?;
     check_eq(memory, [0xaa, 0xaa, 0x78, 0x56, 0xaa, 0xaa, 0xaa, 0xaa])
 }

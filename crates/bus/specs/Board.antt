@@ -1,5 +1,5 @@
 -- What a board may be built of, and what a part of it holds.
-use mathlib.Core.Bool.{not, cond, _&&_}
+use mathlib.Core.Bool.{Bool, true, false, not, cond, _&&_}
 use Prim.Native.Nat.{ℕ, _+_, _-_, _%_, _^_}
 use lib.Dec.{eqb, leb}
 use Rattle.std.specs.declared.option.Option.{Option}
@@ -21,6 +21,10 @@ rangeCheck b n =
 -- whether a split may have its border at c
 abbrev pub borderCheck : ℕ → Result (Unit {0}) BoardRefusal
 borderCheck c = cond (eqb (c % 4) 0) (Ok tt) (Err Uneven)
+
+abbrev pub isAccepted : Result (Unit {0}) BoardRefusal → Bool
+isAccepted (Ok _) = true
+isAccepted (Err e) = false
 
 abbrev pub nothing : Memory
 nothing a = absent

@@ -1,7 +1,7 @@
 // The physical bus: what each address holds, and the two calls by which it is read and written.
 ghost use mathlib.Core.Path.{_≡_};
 ghost use mathlib.Core.List.{List};
-ghost use Prim.Native.Nat.{ℕ};
+ghost use Rattle.bus.specs.Layout.{Fixture};
 ghost use Rattle.bus.specs.Memory.{Memory, Sound, readOf, writeOf, answerOf, memoryAfter};
 
 pub mod access;
@@ -23,11 +23,13 @@ pub trait Bus {
     // What each physical address holds.
     ghost byte: { Self → Memory };
 
+    // No address lies past the last, and every cell holds a byte.
     ghost sound: { (s : Self) → Sound (byte s) };
 
-    // What no call changes: where the parts lie, and whose memory was lent to them. By this a caller that lent memory to a
-    // bank knows what it holds once the bank is gone.
-    ghost layout: { Self → List ℕ };
+    // What no call changes: where the parts lie, whose memory was lent to them, and what lies behind the bus without being
+    // shown. So a call cannot touch what it does not name, and a caller that lent memory to a bank knows what it holds once
+    // the bank is gone.
+    ghost layout: { Self → List Fixture };
 
     // The `width` bytes from `at` on, the lowest first.
     fn read(&mut self, at: PhysAddr, width: u32) -> Result<u32, Refusal>

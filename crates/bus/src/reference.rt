@@ -1,6 +1,7 @@
 // A bus that is lent is a bus.
 ghost use mathlib.Core.List.{_∷_};
 ghost use denote.Ref.{now, name};
+ghost use Rattle.bus.specs.Layout.{number};
 use crate::Bus;
 use crate::address::PhysAddr;
 use crate::refusal::Refusal;
@@ -10,7 +11,7 @@ pub impl<B: Bus> Bus for &mut B as ReferenceBus {
 
     ghost sound = { λ s. B·Bus .sound (now s) };
 
-    ghost layout = { λ s. name s ∷ B·Bus .layout (now s) };
+    ghost layout = { λ s. number (name s) ∷ B·Bus .layout (now s) };
 
     fn read(&mut self, at: PhysAddr, width: u32) -> Result<u32, Refusal> {
         (**self).read(at, width)

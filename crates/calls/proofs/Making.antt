@@ -4,7 +4,7 @@ use mathlib.Core.List.{List, [], _∷_, _++_, append-assoc}
 use Prim.Native.Nat.{ℕ, _+_, _-_, _<_, _≤_}
 use lib.ListN.{length, getD, drop}
 use Rattle.std.proofs.shelf.Lists.{at-drop-more, at-drop-all, append-nil}
-use Rattle.bus.specs.Memory.{Memory, readOf, writeOf, answerOf}
+use Rattle.bus.specs.Memory.{Memory, Sound, readOf, writeOf, answerOf}
 use Rattle.bus.proofs.Ruling.{read-rule, write-rule}
 use Rattle.calls.specs.declared.call.Call.{Call}
 use Rattle.calls.specs.declared.call.Call.the-variants.{Read, Write}
@@ -12,9 +12,9 @@ use Rattle.calls.specs.declared.call.Answer.{Answer}
 use Rattle.calls.specs.Calls.{answerTo, memoryOf, answersTo, memoryThrough}
 use Rattle.calls.specs.Laws.{ByRule}
 
-pub by-rule : (m : Memory) (c : Call) (r : Answer) (n : Memory) → r ≡ answerTo m c → n ≡ memoryOf m c → ByRule m c r n
-by-rule m (Read at w) r n p q = subst (λ x. ByRule m (Read at w) x n) (sym p) (read-rule m (at .0) w (readOf m (at .0) w) refl, q)
-by-rule m (Write at w v) r n p q = subst (λ x. ByRule m (Write at w v) x n) (sym p) (write-rule m (at .0) w v (answerOf (writeOf m (at .0) w v)) n refl q)
+pub by-rule : (m : Memory) → Sound m → (c : Call) (r : Answer) (n : Memory) → r ≡ answerTo m c → n ≡ memoryOf m c → ByRule m c r n
+by-rule m sound (Read at w) r n p q = subst (λ x. ByRule m (Read at w) x n) (sym p) (read-rule m (at .0) w sound (readOf m (at .0) w) refl, q)
+by-rule m sound (Write at w v) r n p q = subst (λ x. ByRule m (Write at w v) x n) (sym p) (write-rule m (at .0) w v (answerOf (writeOf m (at .0) w v)) n (record { answer = refl; after = q }))
 
 -- the i-th call of cs, made on m, leaves n and answers r
 module _ (cs : List Call) (i : ℕ) (d : Call) (m n : Memory) (left : n ≡ memoryOf m (getD cs i d)) where

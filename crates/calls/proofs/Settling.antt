@@ -1,7 +1,7 @@
 -- What memory holds that was lent to a bank and comes back.
 use mathlib.Core.Path.{_≡_, sym, ap, _∙_}
 use mathlib.Core.Bool.{true}
-use mathlib.Core.List.{List, _∷_}
+use mathlib.Core.List.{List, [], _∷_}
 use Prim.Native.Nat.{ℕ, _+_, _-_, _%_, _<_}
 use native.Mathlib.Omega.{arith}
 use lib.ListN.{length, getD}
@@ -9,6 +9,7 @@ use Rattle.std.proofs.shelf.Ways.{tells}
 use Rattle.std.proofs.shelf.Tests.{cond-true}
 use Rattle.std.specs.declared.result.Result.the-variants.{Ok}
 use Rattle.bus.specs.Cell.{writable}
+use Rattle.bus.specs.Layout.{number, bytes}
 use Rattle.bus.specs.Memory.{Memory, held, within}
 use Rattle.bus.specs.Board.{rangeCheck}
 use Rattle.bus.proofs.Accesses.{part-is}
@@ -16,7 +17,7 @@ use Rattle.parts.specs.Parts.{byteCell, bankCells, hiddenWhere, hiddenBytes}
 use Rattle.calls.specs.Laws.{Settled}
 
 -- two layouts of a bank that are equal
-pub layout-parts : (b name b′ name′ : ℕ) (rest rest′ : List ℕ) → b ∷ name ∷ rest ≡ b′ ∷ name′ ∷ rest′ → (b ≡ b′) × (name ≡ name′) × (rest ≡ rest′)
+pub layout-parts : (b name b′ name′ : ℕ) (rest rest′ : List ℕ) → number b ∷ number name ∷ bytes rest ∷ [] ≡ number b′ ∷ number name′ ∷ bytes rest′ ∷ [] → (b ≡ b′) × (name ≡ name′) × (rest ≡ rest′)
 layout-parts b name b′ name′ rest rest′ e = (cc, cc, cc)
 
 module _ (b : ℕ) (xs ys : List ℕ) (m : Memory) (as-long : length ys ≡ length xs) (fits : (k : ℕ) → getD ys k 0 < 256) (meant : bankCells b ys ≡ m) where

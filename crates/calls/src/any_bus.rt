@@ -10,6 +10,7 @@ use bus::Bus;
 use std::alloc::AllocError;
 use std::alloc::Global;
 
+// `perform` without its rule, which the loop below has no use for.
 fn ask<B: Bus>(bus: &mut B, call: Call) -> Answer
     ensures answer { λ r. ⌜ r ≡ answerTo (byte (now (bus .entry))) call ⌝ }
     ensures after { λ _. ⌜ byte (now (bus .exit)) ≡ memoryOf (byte (now (bus .entry))) call ⌝ }
@@ -31,6 +32,7 @@ pub fn perform<B: Bus>(bus: &mut B, call: Call) -> Answer
     ask(bus, call)
 }
 
+// `perform_all` without its law.
 fn ask_all<B: Bus>(heap: Global, bus: &mut B, calls: &[Call]) -> Result<Vec<Answer>, AllocError>
     ensures answers { λ r. ⌜ Cases r (λ v. vec-items v ≡ answersTo (byte (now (bus .entry))) (now (calls .entry))) (λ _. Unit {0}) ⌝ }
     ensures after { λ r. ⌜ Cases r (λ _. byte (now (bus .exit)) ≡ memoryThrough (byte (now (bus .entry))) (now (calls .entry))) (λ _. byte (now (bus .exit)) ≡ byte (now (bus .entry))) ⌝ }

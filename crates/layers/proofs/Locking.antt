@@ -4,7 +4,7 @@ use mathlib.Core.Bool.{Bool, true, false, cond}
 use Prim.Native.Nat.{ℕ, zero, suc, _+_, _*_}
 use native.Mathlib.Omega.{arith}
 use Rattle.std.proofs.shelf.Ways.{tells}
-use Rattle.std.proofs.shelf.Tests.{cond-true, cond-false}
+use Rattle.std.proofs.shelf.Tests.{cond-true, cond-false, and-from, not-from-false}
 use Rattle.std.specs.declared.option.Option.the-variants.{Some, None}
 use Rattle.std.specs.declared.result.Result.{Result}
 use Rattle.std.specs.declared.result.Result.the-variants.{Ok, Err}
@@ -12,9 +12,11 @@ use Rattle.bus.specs.declared.refusal.Refusal.{Refusal}
 use Rattle.bus.specs.declared.refusal.Refusal.the-variants.{Misaligned, Absent, Fixed}
 use Rattle.bus.specs.Cell.{Cell, absent, fixed, writable}
 use Rattle.bus.specs.Memory.{Memory, address, held, aligned, within, isAbsent, isFixed, unlessAny, valueAt, readOf, writeOf, put}
-use Rattle.bus.specs.Board.{rangeCheck, whereAccepted, offsetIn}
+use Rattle.bus.specs.Board.{rangeCheck, isAccepted, whereAccepted, offsetIn}
+use Rattle.bus.specs.Layout.{hiddenCells}
 use Rattle.bus.proofs.Accesses.{stays-outside, Accepted, accepted, offset-found, offset-none, Written, written-by, written-same}
-use Rattle.layers.specs.Layers.{locked, lockedFrom, lockCells}
+use Rattle.bus.proofs.Ruling.{hidden-kept}
+use Rattle.layers.specs.Layers.{locked, lockedFrom, lockCells, shownUnlocked}
 use Rattle.layers.proofs.Views.{written-over}
 
 held-locked : (t : Bool) (c : Cell) → held (cond t (locked c) c) ≡ held c
@@ -128,8 +130,14 @@ module _ (b n : ℕ) (checked : Ok tt ≡ rangeCheck b n) (m : Memory) where
       pub inside-write : (f : Memory) → f ≡ m → Written (lockCells b n m) a w v (Err (Fixed (address a))) (lockCells b n f)
       inside-write f p = refuses (Fixed (address a)) f p write-fixed
 
+    stays-out : None ≡ offsetIn b n a → aligned a w ≡ true → (x : ℕ) → within a w x ≡ true → within b n x ≡ false
+    stays-out outside fit x e = stays-outside b n a w x (range .even-base) (range .even-length) fit e (offset-none b n a (sym checked) outside)
+
     pub outside-write : None ≡ offsetIn b n a → (r : Result (Unit {0}) Refusal) (f : Memory) → Written m a w v r f → Written (lockCells b n m) a w v r (lockCells b n f)
     outside-write outside r f h =
         written-same (lockedFrom b n m) (lockCells b n m) (lockedFrom b n f) (lockCells b n f) a w v r (sym (lock-is m)) (lock-is f)
         (written-over (λ x c. cond (within b n x) (locked c) c) m a w v
-        (λ fit x e c. cond-false _ _ _ (stays-outside b n a w x (range .even-base) (range .even-length) fit e (offset-none b n a (sym checked) outside))) r f h)
+        (λ fit x e c. cond-false _ _ _ (stays-out outside fit x e)) r f h)
+
+    pub outside-hidden : None ≡ offsetIn b n a → (r : Result (Unit {0}) Refusal) (f : Memory) → Written m a w v r f → hiddenCells (shownUnlocked b n) f ≡ hiddenCells (shownUnlocked b n) m
+    outside-hidden outside r f h = hidden-kept (shownUnlocked b n) m a w v (λ fit x e. and-from _ _ (ap isAccepted (sym checked)) (not-from-false _ (stays-out outside fit x e))) r f h

@@ -3,8 +3,9 @@ use mathlib.Core.Path.{_≡_, refl, sym, ap, _∙_, fun-ext}
 use mathlib.Core.Bool.{Bool, true, false, cond}
 use Prim.Native.Nat.{ℕ, _+_, _-_, _%_, _^_, _≤_, _<_}
 use native.Mathlib.Omega.{arith}
+use lib.Dec.{ltb}
 use Rattle.std.proofs.shelf.Ways.{tells}
-use Rattle.std.proofs.shelf.Tests.{cond-true, cond-false}
+use Rattle.std.proofs.shelf.Tests.{cond-true, cond-false, and-from, lt-ltb}
 use Rattle.std.specs.declared.option.Option.the-variants.{Some}
 use Rattle.std.specs.declared.result.Result.{Result}
 use Rattle.std.specs.declared.result.Result.the-variants.{Err}
@@ -12,9 +13,11 @@ use Rattle.bus.specs.declared.refusal.Refusal.{Refusal}
 use Rattle.bus.specs.declared.refusal.Refusal.the-variants.{Absent, Fixed}
 use Rattle.bus.specs.Cell.{absent, writable}
 use Rattle.bus.specs.Memory.{Memory, address, aligned, within, byteOf, readOf, writeOf, answerOf, memoryAfter, put}
-use Rattle.bus.specs.Board.{cellsFrom, offsetIn}
+use Rattle.bus.specs.Board.{isAccepted, cellsFrom, offsetIn}
+use Rattle.bus.specs.Layout.{hiddenCells}
 use Rattle.bus.proofs.Accesses.{within-bounds, stays-inside, Found, offset-found, part-is, Written, written-same}
-use Rattle.layers.specs.Layers.{shiftCells, movedBy}
+use Rattle.bus.proofs.Ruling.{hidden-kept}
+use Rattle.layers.specs.Layers.{shiftCells, movedBy, shownShifted}
 use Rattle.layers.proofs.Views.{seen, AllShown, read-seen, write-seen, seen-answer, seen-after}
 
 module _ (f : Memory) (b n a w k : ℕ) (place : Found b n a k) where
@@ -99,3 +102,15 @@ module _ (f : Memory) (b n a w k : ℕ) (offset : Some k ≡ offsetIn b n a) whe
   unwritten-shown v e e′ g p h =
       let shown = written-shown v (Err e) g h in
       record { answer = ap Err p ∙ shown .answer; after = shown .after }
+
+  pub shift-hidden : (v : ℕ) (r : Result (Unit {0}) Refusal) (g : Memory) → Written f k w v r g → hiddenCells (shownShifted b n) g ≡ hiddenCells (shownShifted b n) f
+  shift-hidden v r g h = hidden-kept (shownShifted b n) f k w v (λ fit x e. and-from _ _ (ap isAccepted (place .range .checked)) (below x fit e)) r g h
+    where
+      below : (x : ℕ) → aligned k w ≡ true → within k w x ≡ true → ltb x n ≡ true
+      below x fit e =
+          let o = place .offset in
+          let s = within-bounds b n a (place .begins) in
+          let p = within-bounds k w x e in
+          let named : within a w (x + b) ≡ true = grind (arith, tells) in
+          let q = within-bounds b n (x + b) (stays f b n a w k place (x + b) (fits-alike f b n a w k place ∙ fit) named) in
+          lt-ltb x n (omega arith)

@@ -5,20 +5,25 @@ use Prim.Native.Nat.{ℕ, _%_, _≤_, _<_}
 use native.Mathlib.Omega.{arith}
 use lib.Dec.{eqb, ltb}
 use Rattle.std.proofs.shelf.Ways.{tells}
-use Rattle.std.proofs.shelf.Tests.{cond-true, cond-false, eq-eqb}
+use Rattle.std.proofs.shelf.Tests.{cond-true, cond-false, eq-eqb, and-from, not-from-false}
 use Rattle.std.specs.declared.result.Result.{Result}
 use Rattle.std.specs.declared.result.Result.the-variants.{Ok, Err}
 use Rattle.bus.specs.declared.refusal.Refusal.{Refusal}
 use Rattle.bus.specs.declared.refusal.BoardRefusal.the-variants.{Uneven}
 use Rattle.bus.specs.Memory.{Memory, aligned, within}
-use Rattle.bus.specs.Board.{whereAccepted}
+use Rattle.bus.specs.Board.{borderCheck, isAccepted, whereAccepted}
+use Rattle.bus.specs.Layout.{hiddenCells}
 use Rattle.bus.proofs.Accesses.{Written, written-same}
-use Rattle.layers.specs.Layers.{sides, splitCells}
+use Rattle.bus.proofs.Ruling.{hidden-kept}
+use Rattle.layers.specs.Layers.{sides, splitCells, shownLow, shownHigh}
 use Rattle.layers.proofs.Views.{written-over}
 
 module _ (c : ℕ) (even : c % 4 ≡ 0) where
   split-is : (lo hi : Memory) → splitCells c lo hi ≡ sides c lo hi
   split-is lo hi = ap (λ r. whereAccepted r (sides c lo hi)) (cond-true (eqb (c % 4) 0) (Ok tt) (Err Uneven) (eq-eqb (c % 4) 0 even))
+
+  accepts : isAccepted (borderCheck c) ≡ true
+  accepts = ap isAccepted (cond-true (eqb (c % 4) 0) (Ok tt) (Err Uneven) (eq-eqb (c % 4) 0 even))
 
   stays-below : (a w x : ℕ) → a < c → aligned a w ≡ true → within a w x ≡ true → ltb x c ≡ true
   stays-below a w x l fit e = grind (arith, tells)
@@ -36,3 +41,9 @@ module _ (c : ℕ) (even : c % 4 ≡ 0) where
     high-write above h =
         written-same (sides c lo hi) (splitCells c lo hi) (sides c lo n) (splitCells c lo n) a w v r (sym (split-is lo hi)) (split-is lo n)
         (written-over (λ x d. cond (ltb x c) (lo x) d) hi a w v (λ fit x e d. cond-false _ _ _ (stays-above a w x above e)) r n h)
+
+    pub low-hidden : a < c → Written lo a w v r n → hiddenCells (shownLow c) n ≡ hiddenCells (shownLow c) lo
+    low-hidden below h = hidden-kept (shownLow c) lo a w v (λ fit x e. and-from _ _ accepts (stays-below a w x below fit e)) r n h
+
+    pub high-hidden : c ≤ a → Written hi a w v r n → hiddenCells (shownHigh c) n ≡ hiddenCells (shownHigh c) hi
+    high-hidden above h = hidden-kept (shownHigh c) hi a w v (λ fit x e. and-from _ _ accepts (not-from-false _ (stays-above a w x above e))) r n h

@@ -1,12 +1,12 @@
 -- What a layer shows of the buses below it.
-use mathlib.Core.Bool.{cond}
+use mathlib.Core.Bool.{Bool, not, cond, _&&_}
 use Prim.Native.Nat.{ℕ, _+_, _%_, _^_}
 use lib.Dec.{ltb}
 use Rattle.bus.specs.declared.refusal.Refusal.{Refusal}
 use Rattle.bus.specs.declared.refusal.Refusal.the-variants.{Misaligned, Absent, Fixed}
 use Rattle.bus.specs.Cell.{Cell, absent, fixed, writable}
 use Rattle.bus.specs.Memory.{Memory, address, within}
-use Rattle.bus.specs.Board.{rangeCheck, borderCheck, whereAccepted, partCells}
+use Rattle.bus.specs.Board.{rangeCheck, borderCheck, isAccepted, whereAccepted, partCells}
 
 -- lo below c, and hi from there on
 abbrev pub sides : ℕ → Memory → Memory → Memory
@@ -39,3 +39,17 @@ lockedFrom b n m a = cond (within b n a) (locked (m a)) (m a)
 -- a lock of the n bytes from b on
 abbrev pub lockCells : ℕ → ℕ → Memory → Memory
 lockCells b n m = whereAccepted (rangeCheck b n) (lockedFrom b n m)
+
+-- Which cells of the bus below a layer shows as they are: none, where it is made of refused numbers.
+
+abbrev pub shownLow : ℕ → ℕ → Bool
+shownLow c a = isAccepted (borderCheck c) && ltb a c
+
+abbrev pub shownHigh : ℕ → ℕ → Bool
+shownHigh c a = isAccepted (borderCheck c) && not (ltb a c)
+
+abbrev pub shownShifted : ℕ → ℕ → ℕ → Bool
+shownShifted b n k = isAccepted (rangeCheck b n) && ltb k n
+
+abbrev pub shownUnlocked : ℕ → ℕ → ℕ → Bool
+shownUnlocked b n a = isAccepted (rangeCheck b n) && not (within b n a)

@@ -1,7 +1,8 @@
 // A bus of which a range cannot be written.
 ghost use mathlib.Core.Path.{_≡_};
 ghost use mathlib.Core.List.{_∷_};
-ghost use Rattle.layers.specs.Layers.{lockCells};
+ghost use Rattle.bus.specs.Layout.{number, cells, hiddenCells};
+ghost use Rattle.layers.specs.Layers.{lockCells, shownUnlocked};
 ghost use Rattle.layers.specs.Soundness.{lock-sound};
 use bus::Bus;
 use bus::PhysAddr;
@@ -38,7 +39,7 @@ pub impl<B: Bus> Bus for Lock<B> as LockBus {
 
     ghost sound = { λ s. lock-sound (s .base .0) (s .length) (B·Bus .byte (s .inner)) (B·Bus .sound (s .inner)) };
 
-    ghost layout = { λ s. s .base .0 ∷ s .length ∷ B·Bus .layout (s .inner) };
+    ghost layout = { λ s. number (s .base .0) ∷ number (s .length) ∷ cells (hiddenCells (shownUnlocked (s .base .0) (s .length)) (B·Bus .byte (s .inner))) ∷ B·Bus .layout (s .inner) };
 
     fn read(&mut self, at: PhysAddr, width: u32) -> Result<u32, Refusal> {
         match check_range(self.base, self.length) {

@@ -1,7 +1,8 @@
 // A bus seen at other addresses.
 ghost use mathlib.Core.Path.{_≡_};
 ghost use mathlib.Core.List.{_∷_};
-ghost use Rattle.layers.specs.Layers.{shiftCells, movedBy};
+ghost use Rattle.bus.specs.Layout.{number, cells, hiddenCells};
+ghost use Rattle.layers.specs.Layers.{shiftCells, movedBy, shownShifted};
 ghost use Rattle.layers.specs.Soundness.{shift-sound};
 use bus::Bus;
 use bus::PhysAddr;
@@ -48,7 +49,7 @@ pub impl<B: Bus> Bus for Shift<B> as ShiftBus {
 
     ghost sound = { λ s. shift-sound (s .base .0) (s .length) (B·Bus .byte (s .inner)) (B·Bus .sound (s .inner)) };
 
-    ghost layout = { λ s. s .base .0 ∷ s .length ∷ B·Bus .layout (s .inner) };
+    ghost layout = { λ s. number (s .base .0) ∷ number (s .length) ∷ cells (hiddenCells (shownShifted (s .base .0) (s .length)) (B·Bus .byte (s .inner))) ∷ B·Bus .layout (s .inner) };
 
     fn read(&mut self, at: PhysAddr, width: u32) -> Result<u32, Refusal> {
         match offset_in(self.base, self.length, at) {

@@ -1,17 +1,15 @@
 // Memory that can be read and written, lent by the caller.
 ghost use mathlib.Core.Path.{_≡_};
-ghost use mathlib.Core.List.{_∷_};
+ghost use mathlib.Core.List.{[], _∷_};
 ghost use denote.Ref.{now, name};
+ghost use Rattle.bus.specs.Layout.{number, bytes};
 ghost use Rattle.bus.specs.Memory.{readOf};
 ghost use Rattle.parts.specs.Parts.{bankCells, hiddenBytes};
 ghost use Rattle.parts.specs.Soundness.{bank-sound};
-use crate::bytes::store;
 use crate::lent;
 use bus::Bus;
 use bus::PhysAddr;
 use bus::Refusal;
-use bus::is_aligned;
-use bus::offset_in;
 
 // The caller's memory, from a base on, open.
 #[derive(Drop)]
@@ -43,22 +41,13 @@ pub impl Bus for Bank<'_> as BankBus {
 
     ghost sound = { λ s. bank-sound (s .base .0) (now (s .memory)) };
 
-    ghost layout = { λ s. s .base .0 ∷ name (s .memory) ∷ hiddenBytes (s .base .0) (now (s .memory)) };
+    ghost layout = { λ s. number (s .base .0) ∷ number (name (s .memory)) ∷ bytes (hiddenBytes (s .base .0) (now (s .memory))) ∷ [] };
 
     fn read(&mut self, at: PhysAddr, width: u32) -> Result<u32, Refusal> {
         self.look(at, width)
     }
 
     fn write(&mut self, at: PhysAddr, width: u32, value: u32) -> Result<(), Refusal> {
-        if !is_aligned(at, width) {
-            return Err(Refusal::Misaligned);
-        }
-        match offset_in(self.base, self.memory.len() as u64, at) {
-            Some(offset) => {
-                store(self.memory, offset as usize, width as usize, value);
-                Ok(())
-            }
-            None => Err(Refusal::Absent(at)),
-        }
+        lent::write(self.base, self.memory, at, width, value)
     }
 }

@@ -2,6 +2,7 @@
 ghost use mathlib.Core.Path.{_≡_};
 ghost use mathlib.Core.List.{[], _∷_};
 ghost use denote.Ref.{now};
+ghost use Rattle.bus.specs.Layout.{number};
 ghost use Rattle.parts.specs.Parts.{imageCells};
 ghost use Rattle.parts.specs.Soundness.{image-sound};
 use crate::lent;
@@ -33,7 +34,7 @@ pub impl Bus for Image<'_> as ImageBus {
 
     ghost sound = { λ s. image-sound (s .base .0) (now (s .memory)) };
 
-    ghost layout = { λ s. s .base .0 ∷ [] };
+    ghost layout = { λ s. number (s .base .0) ∷ [] };
 
     fn read(&mut self, at: PhysAddr, width: u32) -> Result<u32, Refusal> {
         lent::read(self.base, self.memory, at, width)

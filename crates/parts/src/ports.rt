@@ -2,16 +2,14 @@
 ghost use mathlib.Core.Path.{_≡_};
 ghost use mathlib.Core.List.{[], _∷_};
 ghost use denote.Ref.{now};
+ghost use Rattle.bus.specs.Layout.{number};
 ghost use Rattle.bus.specs.Memory.{readOf};
 ghost use Rattle.parts.specs.Parts.{bankCells, portCells};
 ghost use Rattle.parts.specs.Soundness.{bank-sound};
-use crate::bytes::store;
 use crate::lent;
 use bus::Bus;
 use bus::PhysAddr;
 use bus::Refusal;
-use bus::is_aligned;
-use bus::offset_in;
 
 const PORT_BYTES: usize = 64;
 
@@ -46,22 +44,13 @@ pub impl Bus for Ports as PortsBus {
 
     ghost sound = { λ s. bank-sound (s .base .0) (s .cells) };
 
-    ghost layout = { λ s. s .base .0 ∷ [] };
+    ghost layout = { λ s. number (s .base .0) ∷ [] };
 
     fn read(&mut self, at: PhysAddr, width: u32) -> Result<u32, Refusal> {
         self.look(at, width)
     }
 
     fn write(&mut self, at: PhysAddr, width: u32, value: u32) -> Result<(), Refusal> {
-        if !is_aligned(at, width) {
-            return Err(Refusal::Misaligned);
-        }
-        match offset_in(self.base, PORT_BYTES as u64, at) {
-            Some(offset) => {
-                store(&mut self.cells, offset as usize, width as usize, value);
-                Ok(())
-            }
-            None => Err(Refusal::Absent(at)),
-        }
+        lent::write(self.base, &mut self.cells, at, width, value)
     }
 }

@@ -35,7 +35,7 @@ pub(crate) fn border(rt: &LibcRuntime, border: PhysAddr) -> Result<(), AnyError>
     Ok(())
 }
 
-fn refused(rt: &LibcRuntime, refusal: Refusal) -> io::Result<()> {
+pub(crate) fn refused(rt: &LibcRuntime, refusal: Refusal) -> io::Result<()> {
     let number = refusal.number();
     match refusal.address() {
         Some(at) => {
@@ -44,6 +44,14 @@ fn refused(rt: &LibcRuntime, refusal: Refusal) -> io::Result<()> {
         }
         None => println!(rt, "refused {number}"),
     }
+}
+
+pub(crate) fn verified(rt: &LibcRuntime, at: PhysAddr, width: u32, value: u32) -> io::Result<()> {
+    let address = at.0;
+    println!(
+        rt,
+        "write 0x{address:08X} {width} 0x{value:X}: done and read back"
+    )
 }
 
 pub(crate) fn call(rt: &LibcRuntime, call: Call) -> io::Result<()> {

@@ -8,5 +8,5 @@ returns g c =
       answer = told .answer;
       after = told .after;
       kept = told .kept;
-      rule = by-rule (g .B·Bus .byte (c .args .bus .now)) (c .args .call) (c .ask .result) (g .B·Bus .byte (c .ask .last .bus)) (told .answer) (told .after);
+      rule = by-rule (g .B·Bus .byte (c .args .bus .now)) (g .B·Bus .sound (c .args .bus .now)) (c .args .call) (c .ask .result) (g .B·Bus .byte (c .ask .last .bus)) (told .answer) (told .after);
     }

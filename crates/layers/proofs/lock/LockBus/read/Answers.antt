@@ -1,6 +1,7 @@
 use mathlib.Core.List.{_∷_}
 use mathlib.Core.Path.{ap}
-use Rattle.layers.specs.Layers.{lockCells}
+use Rattle.bus.specs.Layout.{number, cells, hiddenCells}
+use Rattle.layers.specs.Layers.{lockCells, shownUnlocked}
 use Rattle.layers.proofs.Locking.{lock-read}
 use Rattle.layers.proofs.lock.LockBus.read.Needs as need
 
@@ -10,5 +11,5 @@ returns-in-Ok g c =
     record {
       value = lock-read (s .base .0) (s .length) (c .in-Ok .ensures tt) (g .B·Bus .byte (s .inner)) (c .args .at .0) (c .args .width) (c .read .result) (c .read .ensures .value);
       same = ap (lockCells (s .base .0) (s .length)) (c .read .ensures .same);
-      kept = ap (λ l. s .base .0 ∷ s .length ∷ l) (c .read .ensures .kept);
+      kept = λ i. number (s .base .0) ∷ number (s .length) ∷ cells (hiddenCells (shownUnlocked (s .base .0) (s .length)) (c .read .ensures .same i)) ∷ c .read .ensures .kept i;
     }
