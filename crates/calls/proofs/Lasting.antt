@@ -3,15 +3,13 @@ use mathlib.Core.Path.{_≡_, refl, sym, ap, subst, _∙_}
 use mathlib.Core.Bool.{Bool, true, false}
 use mathlib.Core.List.{List, [], _∷_}
 use Prim.Native.Nat.{ℕ, _-_}
-use native.Mathlib.Omega.{arith}
-use Rattle.std.proofs.shelf.Ways.{tells}
 use Rattle.std.proofs.shelf.Tests.{or-parts, both-ways}
 use Rattle.std.specs.declared.result.Result.{Result}
 use Rattle.std.specs.declared.result.Result.the-variants.{Ok, Err}
 use Rattle.std.specs.Results.{Cases}
 use Rattle.bus.specs.declared.refusal.Refusal.{Refusal}
 use Rattle.bus.specs.Memory.{Memory, isAbsent, isFixed, within, writeOf, answerOf, memoryAfter}
-use Rattle.bus.specs.Rules.{Names, NoneNamed, Replaced, WriteRule, misaligned, missing, unwritable, written}
+use Rattle.bus.specs.Rules.{NoneNamed, Replaced, WriteRule, misaligned, missing, unwritable, written}
 use Rattle.bus.proofs.Accesses.{within-bounds}
 use Rattle.bus.proofs.Ruling.{without-names, write-rule}
 use Rattle.calls.specs.declared.call.Call.{Call}
