@@ -16,6 +16,7 @@ pub use address::PhysAddr;
 pub use board::check_border;
 pub use board::check_range;
 pub use board::offset_in;
+pub use reference::ReferenceBus;
 pub use refusal::BoardRefusal;
 pub use refusal::Refusal;
 

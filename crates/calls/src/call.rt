@@ -1,3 +1,4 @@
+// Bus calls and their answers, as values.
 use bus::PhysAddr;
 use bus::Refusal;
 

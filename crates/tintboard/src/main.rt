@@ -6,7 +6,7 @@ use boards::Latch;
 use boards::LatchBus;
 use bus::Bus;
 use bus::PhysAddr;
-use bus::reference::ReferenceBus;
+use bus::ReferenceBus;
 use calls::Call;
 use calls::perform_in_memory;
 use layers::Lock;
