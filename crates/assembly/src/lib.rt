@@ -1,4 +1,6 @@
-// Instructions in the manual's assembly form.
+//! Instructions in the manual's assembly form.
+#![tactic(auto)]
+
 pub mod disassembly;
 mod display;
 pub mod line;

@@ -1,4 +1,6 @@
-// The physical bus: what each address holds, and the two calls by which it is read and written.
+//! The physical bus: what each address holds, and the two calls by which it is read and written.
+#![tactic(auto)]
+
 ghost use Rattle.std.specs.Prelude.{◌≡◌, List};
 ghost use Rattle.bus.specs.Layout.{Fixture};
 ghost use Rattle.bus.specs.Memory.{Memory, Sound, read_of, write_of, answer_of, memory_after};

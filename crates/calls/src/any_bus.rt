@@ -9,9 +9,9 @@ use std::alloc::{AllocError, Global};
 
 // `perform` without its rule, which the loop below has no use for.
 fn ask<B: Bus>(bus: &mut B, call: Call) -> Answer
-    ensures answer { result ≡ answer_to (byte bus.old) call }
-    ensures after { byte bus.new ≡ memory_of (byte bus.old) call }
-    ensures kept { layout bus.new ≡ layout bus.old }
+    ensures answer { result ≡ answer_to (B.byte bus.old) call }
+    ensures after { B.byte bus.new ≡ memory_of (B.byte bus.old) call }
+    ensures kept { B.layout bus.new ≡ B.layout bus.old }
 {
     match call {
         Call::Read { at, width } => Answer::Read(bus.read(at, width)),
@@ -21,19 +21,19 @@ fn ask<B: Bus>(bus: &mut B, call: Call) -> Answer
 
 // Makes one call.
 pub fn perform<B: Bus>(bus: &mut B, call: Call) -> Answer
-    ensures answer { result ≡ answer_to (byte bus.old) call }
-    ensures after { byte bus.new ≡ memory_of (byte bus.old) call }
-    ensures kept { layout bus.new ≡ layout bus.old }
-    ensures rule { ByRule (byte bus.old) call result (byte bus.new) }
+    ensures answer { result ≡ answer_to (B.byte bus.old) call }
+    ensures after { B.byte bus.new ≡ memory_of (B.byte bus.old) call }
+    ensures kept { B.layout bus.new ≡ B.layout bus.old }
+    ensures rule { ByRule (B.byte bus.old) call result (B.byte bus.new) }
 {
     ask(bus, call)
 }
 
 // `perform_all` without its law.
 fn ask_all<B: Bus>(heap: Global, bus: &mut B, calls: &[Call]) -> Result<Vec<Answer>, AllocError>
-    ensures answers { IfOk result (λ v. v.items ≡ answers_to (byte bus.old) calls.now) }
-    ensures after { MatchResult result (λ _. byte bus.new ≡ memory_through (byte bus.old) calls.now) (λ _. byte bus.new ≡ byte bus.old) }
-    ensures kept { layout bus.new ≡ layout bus.old }
+    ensures answers { IfOk result (λ v. v.items ≡ answers_to (B.byte bus.old) calls.now) }
+    ensures after { MatchResult result (λ _. B.byte bus.new ≡ memory_through (B.byte bus.old) calls.now) (λ _. B.byte bus.new ≡ B.byte bus.old) }
+    ensures kept { B.layout bus.new ≡ B.layout bus.old }
 {
     let mut answers = Vec::with_capacity(heap, calls.len())?;
     for call in calls {
@@ -49,10 +49,10 @@ pub fn perform_all<B: Bus>(
     bus: &mut B,
     calls: &[Call],
 ) -> Result<Vec<Answer>, AllocError>
-    ensures answers { IfOk result (λ v. v.items ≡ answers_to (byte bus.old) calls.now) }
-    ensures after { MatchResult result (λ _. byte bus.new ≡ memory_through (byte bus.old) calls.now) (λ _. byte bus.new ≡ byte bus.old) }
-    ensures kept { layout bus.new ≡ layout bus.old }
-    ensures lasting { Lasting (byte bus.old) calls.now (byte bus.new) }
+    ensures answers { IfOk result (λ v. v.items ≡ answers_to (B.byte bus.old) calls.now) }
+    ensures after { MatchResult result (λ _. B.byte bus.new ≡ memory_through (B.byte bus.old) calls.now) (λ _. B.byte bus.new ≡ B.byte bus.old) }
+    ensures kept { B.layout bus.new ≡ B.layout bus.old }
+    ensures lasting { Lasting (B.byte bus.old) calls.now (B.byte bus.new) }
 {
     ask_all(heap, bus, calls)
 }

@@ -1,4 +1,6 @@
-// Bus calls as values: one, a list of them on any bus, one on memory that the caller keeps; and a write that is read back.
+//! Bus calls as values: one, a list of them on any bus, one on memory that the caller keeps; and a write that is read back.
+#![tactic(auto)]
+
 pub mod any_bus;
 pub mod call;
 pub mod lent_memory;

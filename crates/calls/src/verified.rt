@@ -12,9 +12,9 @@ pub fn write_verified<B: Bus>(
     width: u32,
     value: u32,
 ) -> Result<u32, Refusal>
-    ensures value { result ≡ read_back (answer_of (write_of (byte bus.old) at.0 width value)) (value % 256 ^ width) }
-    ensures after { byte bus.new ≡ memory_after (byte bus.old) (write_of (byte bus.old) at.0 width value) }
-    ensures kept { layout bus.new ≡ layout bus.old }
+    ensures value { result ≡ read_back (answer_of (write_of (B.byte bus.old) at.0 width value)) (value % 256 ^ width) }
+    ensures after { B.byte bus.new ≡ memory_after (B.byte bus.old) (write_of (B.byte bus.old) at.0 width value) }
+    ensures kept { B.layout bus.new ≡ B.layout bus.old }
 {
     bus.write(at, width, value)?;
     bus.read(at, width)

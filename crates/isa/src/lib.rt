@@ -1,4 +1,6 @@
-// The instruction set: register numbers, the instructions with all their fields, and how a word is read as one.
+//! The instruction set: register numbers, the instructions with all their fields, and how a word is read as one.
+#![tactic(auto)]
+
 pub mod decoder;
 pub mod field;
 pub mod instruction;

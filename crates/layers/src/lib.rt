@@ -1,4 +1,6 @@
-// Layers over any bus.
+//! Layers over any bus.
+#![tactic(auto)]
+
 pub mod lock;
 pub mod shift;
 pub mod split;

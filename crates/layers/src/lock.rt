@@ -16,7 +16,7 @@ pub struct Lock<B> {
 
 impl<B: Bus> Lock<B> {
     pub fn new(base: PhysAddr, length: u64, inner: B) -> Lock<B>
-        ensures cells { lock_cells result.base.0 result.length (byte result.inner) ≡ lock_cells base.0 length (byte inner) }
+        ensures cells { lock_cells result.base.0 result.length (B.byte result.inner) ≡ lock_cells base.0 length (B.byte inner) }
         ensures base { result.base ≡ base }
         ensures length { result.length ≡ length }
         ensures inner { result.inner ≡ inner }

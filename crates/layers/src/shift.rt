@@ -16,7 +16,7 @@ pub struct Shift<B> {
 
 impl<B: Bus> Shift<B> {
     pub fn new(base: PhysAddr, length: u64, inner: B) -> Shift<B>
-        ensures cells { shift_cells result.base.0 result.length (byte result.inner) ≡ shift_cells base.0 length (byte inner) }
+        ensures cells { shift_cells result.base.0 result.length (B.byte result.inner) ≡ shift_cells base.0 length (B.byte inner) }
         ensures base { result.base ≡ base }
         ensures length { result.length ≡ length }
         ensures inner { result.inner ≡ inner }

@@ -1,4 +1,6 @@
-// What the operations of the instruction set give.
+//! What the operations of the instruction set give.
+#![tactic(auto)]
+
 pub mod access;
 pub mod result;
 #[cfg(test)]

@@ -1,4 +1,6 @@
-// The parts at the bottom of a board.
+//! The parts at the bottom of a board.
+#![tactic(auto)]
+
 pub mod bank;
 mod bytes;
 pub mod image;

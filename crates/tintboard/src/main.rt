@@ -1,4 +1,6 @@
-// Loads a tint table onto a board through its bus, reads it back in every width, and shows what the board refuses.
+//! Loads a tint table onto a board through its bus, reads it back in every width, and shows what the board refuses.
+#![tactic(auto)]
+
 mod show;
 mod table;
 

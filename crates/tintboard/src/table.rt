@@ -47,7 +47,7 @@ fn shots_at(row: PhysAddr) -> PhysAddr
 // Writes a row, and gives the row that the bus then holds: the same. Where the second write is refused, the first is done.
 fn store<B: Bus>(board: &mut B, at: PhysAddr, row: Tint) -> Result<Tint, Refusal>
     ensures row { IfOk result (λ stored. stored ≡ row) }
-    ensures after { OnOk result (byte board.new ≡ memory_through (byte board.old) (row_calls at.0 row)) }
+    ensures after { OnOk result (B.byte board.new ≡ memory_through (B.byte board.old) (row_calls at.0 row)) }
 {
     let colorant = write_verified(board, at, 1, row.colorant as u32)?;
     let shots = write_verified(board, shots_at(at), 2, row.shots as u32)?;

@@ -1,4 +1,6 @@
-// Reads lines of eight hexadecimal digits and prints each word as an instruction.
+//! Reads lines of eight hexadecimal digits and prints each word as an instruction.
+#![tactic(auto)]
+
 mod digits;
 
 use assembly::disassemble;

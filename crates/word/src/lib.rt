@@ -1,4 +1,6 @@
-// Arithmetic on 32-bit words: every operation of the integer instructions, for all operands.
+//! Arithmetic on 32-bit words: every operation of the integer instructions, for all operands.
+#![tactic(auto)]
+
 pub mod arithmetic;
 pub mod division;
 pub mod extension;

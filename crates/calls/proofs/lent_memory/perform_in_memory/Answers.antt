@@ -11,7 +11,7 @@ returns c =
     let s = c.new-bank.result in
     let t = c.perform.new.bus in
     let same = layout_parts t.base.0 t.memory.ghost_name s.base.0 s.memory.ghost_name (hidden_bytes t.base.0 t.memory.now) (hidden_bytes s.base.0 s.memory.now) c.perform.ensures.kept in
-    let same_name : t.memory.name ≡ s.memory.name = same.1 in
+    let same_name : t.memory.ghost_name ≡ s.memory.ghost_name = same.1 in
     let same_base : t.base.0 ≡ b = same.0 ∙ ap (λ p. p.0) c.new-bank.ensures.base in
     let meant : bank_cells b t.memory.now ≡ memory_of (bank_cells b xs) c.args.call
     = ap (λ n. bank_cells n t.memory.now) (sym same_base) ∙ c.perform.ensures.after ∙ ap (λ m. memory_of m c.args.call) c.new-bank.ensures.cells in
@@ -20,5 +20,5 @@ returns c =
     record {
       answer = c.perform.ensures.answer ∙ ap (λ m. answer_to m c.args.call) c.new-bank.ensures.cells;
       after = grind (arith, same_name, meant);
-      bytes = settled b xs _ (memory_of (bank_cells b xs) c.args.call) (omega arith) (λ k. omega (arith, c.type-inv.memory k)) (grind (arith, same_name, meant)) (grind (arith, same_name, hidden));
+      bytes = settled b xs _ (memory_of (bank_cells b xs) c.args.call) (omega arith) (λ k. omega (arith, c.type_inv.memory k)) (grind (arith, same_name, meant)) (grind (arith, same_name, hidden));
     }

@@ -9,7 +9,7 @@ use Rattle.isa.proofs.decoder.decode.Goals as goal
 pub returns : goal.returns
 unfolding decode_of
 returns c = record {
-  exact = subst (λ (r : Option Instruction). Exact c.args.word r) (sym c.by-highest-bits.ensures) (law.exact c.args.word);
+  exact = subst (λ (r : Option Instruction). Exact c.args.word r) (sym c.by_highest_bits.ensures) (law.exact c.args.word);
   words = have_words;
-  value = c.by-highest-bits.ensures;
+  value = c.by_highest_bits.ensures;
 }

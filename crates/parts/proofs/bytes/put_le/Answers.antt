@@ -18,7 +18,7 @@ module _ (xs : List ℕ) (v : ℕ) (four : length xs ≡ 4) (fits : v < 2 ^ 32) 
       (grind (arith, get_or-set_same, get_or-set_other, length-set)))
       (grind (arith, get_or-set_same, get_or-set_other, length-set))
 
-pub returns-in-default : goal.returns-in-default
-returns-in-default c =
+pub returns-in_default : goal.returns-in_default
+returns-in_default c =
     let four : length c.args.part.now ≡ 4 = grind arith in
     λ k h. word c.args.part.now c.args.value four (omega arith) k (omega arith)

@@ -4,4 +4,4 @@ use Rattle.std.proofs.lemmas.Bool.Decides.{nat_tests}
 use Rattle.parts.proofs.bytes.store.Goals as goal
 
 pub returns : goal.returns
-returns c = λ k. grind (arith, nat_tests, places, c.put-le.ensures)
+returns c = λ k. grind (arith, nat_tests, places, c.put_le.ensures)

@@ -6,7 +6,7 @@ use Rattle.word.proofs.division.remainder_signed.Goals as goal
 
 pub returns : goal.returns
 returns c =
-    let value : c.cast-unsigned.result ≡ remainder_signed c.args.a c.args.b = search rules in
+    let value : c.cast_unsigned.result ≡ remainder_signed c.args.a c.args.b = search rules in
     record {
       value = value;
       divides = subst (λ (r : ℕ). DividesSigned c.args.a c.args.b (quotient_signed c.args.a c.args.b) r) (sym value) (divides_signed c.args.a c.args.b c.ranges.a.fits c.ranges.b.fits);
