@@ -1,14 +1,13 @@
 -- What the arithmetic of 32-bit words answers. A word is a number below 2 ^ 32; where an instruction takes it as signed, the
--- definition goes over the integers. Of the logic's own: `negsuc n` is -(n + 1), `lt_z` is the order, `quot_z` rounds to zero, `rem_z`
--- has the dividend's sign, `shr_z` divides and rounds down, and `to_z w32` takes 2 ^ 32 off a number from 2 ^ 31 on.
+-- definition goes over the integers. Of the library's own: `negsuc n` is -(n + 1), `int_lt` is the order, `int_div` rounds to zero, `int_rem`
+-- has the dividend's sign, `shr_z` divides and rounds down, and `cast_signed w32` takes 2 ^ 32 off a number from 2 ^ 31 on.
 use Rattle.std.specs.Prelude.{ℕ, ◌+◌, ◌-◌, ◌*◌, ◌/◌, ◌%◌, ◌^◌, Bool, cond, ℤ, pos, negsuc, ◌-ℤ◌, ◌*ℤ◌, ◌==◌, bit_or, int_div, int_lt, int_rem, nat_lt}
 use Rattle.std.specs.Int.Signed.{shr_z}
-use Rattle.std.specs.Int.{w32}
-use Rattle.std.proofs.Common.{to_z}
+use Rattle.std.specs.Int.{cast_signed, w32}
 
 -- signed(a): the integer that a word is in two's complement
 abbrev pub signed : ℕ → ℤ
-signed a = to_z w32 a
+signed a = cast_signed w32 a
 
 -- z[k-1:0], in two's complement
 abbrev pub low_bits : ℕ → ℤ → ℕ
