@@ -7,11 +7,11 @@ use crate::address::PhysAddr;
 use crate::refusal::Refusal;
 
 impl<B: Bus> Bus for &mut B {
-    ghost byte = { λ s. B.Bus.byte s.now };
+    ghost byte = { λ s. B.byte s.now };
 
-    ghost sound = { λ s. B.Bus.sound s.now };
+    ghost sound = { λ s. B.sound s.now };
 
-    ghost layout = { λ s. number s.ghost_name ∷ B.Bus.layout s.now };
+    ghost layout = { λ s. number s.ghost_name ∷ B.layout s.now };
 
     fn read(&mut self, at: PhysAddr, width: u32) -> Result<u32, Refusal> {
         (**self).read(at, width)

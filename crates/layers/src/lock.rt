@@ -30,11 +30,11 @@ impl<B: Bus> Lock<B> {
 }
 
 impl<B: Bus> Bus for Lock<B> {
-    ghost byte = { λ s. lock_cells s.base.0 s.length (B.Bus.byte s.inner) };
+    ghost byte = { λ s. lock_cells s.base.0 s.length (B.byte s.inner) };
 
-    ghost sound = { λ s. lock_sound s.base.0 s.length (B.Bus.byte s.inner) (B.Bus.sound s.inner) };
+    ghost sound = { λ s. lock_sound s.base.0 s.length (B.byte s.inner) (B.sound s.inner) };
 
-    ghost layout = { λ s. number s.base.0 ∷ number s.length ∷ cells (hidden_cells (shown_unlocked s.base.0 s.length) (B.Bus.byte s.inner)) ∷ B.Bus.layout s.inner };
+    ghost layout = { λ s. number s.base.0 ∷ number s.length ∷ cells (hidden_cells (shown_unlocked s.base.0 s.length) (B.byte s.inner)) ∷ B.layout s.inner };
 
     fn read(&mut self, at: PhysAddr, width: u32) -> Result<u32, Refusal> {
         match check_range(self.base, self.length) {

@@ -41,11 +41,11 @@ fn moved(base: PhysAddr, refusal: Refusal) -> Refusal
 }
 
 impl<B: Bus> Bus for Shift<B> {
-    ghost byte = { λ s. shift_cells s.base.0 s.length (B.Bus.byte s.inner) };
+    ghost byte = { λ s. shift_cells s.base.0 s.length (B.byte s.inner) };
 
-    ghost sound = { λ s. shift_sound s.base.0 s.length (B.Bus.byte s.inner) (B.Bus.sound s.inner) };
+    ghost sound = { λ s. shift_sound s.base.0 s.length (B.byte s.inner) (B.sound s.inner) };
 
-    ghost layout = { λ s. number s.base.0 ∷ number s.length ∷ cells (hidden_cells (shown_shifted s.base.0 s.length) (B.Bus.byte s.inner)) ∷ B.Bus.layout s.inner };
+    ghost layout = { λ s. number s.base.0 ∷ number s.length ∷ cells (hidden_cells (shown_shifted s.base.0 s.length) (B.byte s.inner)) ∷ B.layout s.inner };
 
     fn read(&mut self, at: PhysAddr, width: u32) -> Result<u32, Refusal> {
         match offset_in(self.base, self.length, at) {

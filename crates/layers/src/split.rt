@@ -16,7 +16,7 @@ pub struct Split<L, R> {
 
 impl<L: Bus, R: Bus> Split<L, R> {
     pub fn new(border: PhysAddr, low: L, high: R) -> Split<L, R>
-        ensures cells { split_cells result.border.0 (L.Bus.byte result.low) (R.Bus.byte result.high) ≡ split_cells border.0 (L.Bus.byte low) (R.Bus.byte high) }
+        ensures cells { split_cells result.border.0 (L.byte result.low) (R.byte result.high) ≡ split_cells border.0 (L.byte low) (R.byte high) }
         ensures border { result.border ≡ border }
         ensures low { result.low ≡ low }
         ensures high { result.high ≡ high }
@@ -26,11 +26,11 @@ impl<L: Bus, R: Bus> Split<L, R> {
 }
 
 impl<L: Bus, R: Bus> Bus for Split<L, R> {
-    ghost byte = { λ s. split_cells s.border.0 (L.Bus.byte s.low) (R.Bus.byte s.high) };
+    ghost byte = { λ s. split_cells s.border.0 (L.byte s.low) (R.byte s.high) };
 
-    ghost sound = { λ s. split_sound s.border.0 (L.Bus.byte s.low) (R.Bus.byte s.high) (L.Bus.sound s.low) (R.Bus.sound s.high) };
+    ghost sound = { λ s. split_sound s.border.0 (L.byte s.low) (R.byte s.high) (L.sound s.low) (R.sound s.high) };
 
-    ghost layout = { λ s. number s.border.0 ∷ cells (hidden_cells (shown_low s.border.0) (L.Bus.byte s.low)) ∷ cells (hidden_cells (shown_high s.border.0) (R.Bus.byte s.high)) ∷ (L.Bus.layout s.low ++ R.Bus.layout s.high) };
+    ghost layout = { λ s. number s.border.0 ∷ cells (hidden_cells (shown_low s.border.0) (L.byte s.low)) ∷ cells (hidden_cells (shown_high s.border.0) (R.byte s.high)) ∷ (L.layout s.low ++ R.layout s.high) };
 
     fn read(&mut self, at: PhysAddr, width: u32) -> Result<u32, Refusal> {
         if self.border.0 % 4 != 0 {

@@ -15,12 +15,12 @@ use Rattle.isa.specs.declared.instruction.StoreOp.{StoreOp}
 use Rattle.isa.specs.declared.instruction.StoreOp.TheVariants.{StB, StH, StW}
 use Rattle.isa.specs.declared.instruction.BranchOp.{BranchOp}
 use Rattle.isa.specs.declared.instruction.BranchOp.TheVariants.{Beq, Bne, Blt, Bge, Bltu, Bgeu}
-use Rattle.word.specs.Word.{sum, difference, less_signed, less_unsigned, nor, shift_left, shift_right, shift_right_signed, product_low, product_high_signed, product_high_unsigned, quotient_signed, remainder_signed, quotient_unsigned, remainder_unsigned, sign_extend, zero_extend, upper20}
+use Rattle.word.specs.Word.{word_sum, word_difference, less_signed, less_unsigned, nor, shift_left, shift_right, shift_right_signed, product_low, product_high_signed, product_high_unsigned, quotient_signed, remainder_signed, quotient_unsigned, remainder_unsigned, sign_extend, zero_extend, upper20}
 
 -- of GR[rj] and GR[rk]
 abbrev pub register_result : RegisterOp → ℕ → ℕ → ℕ
-register_result AddW a b = sum a b
-register_result SubW a b = difference a b
+register_result AddW a b = word_sum a b
+register_result SubW a b = word_difference a b
 register_result Slt a b = cond (less_signed a b) 1 0
 register_result Sltu a b = cond (less_unsigned a b) 1 0
 register_result Nor a b = nor a b
@@ -48,7 +48,7 @@ shift_result SraiW a ui5 = shift_right_signed a ui5.value
 abbrev pub immediate_result : ImmediateOp → ℕ → Field 12 → ℕ
 immediate_result Slti a imm12 = cond (less_signed a (sign_extend 12 imm12.value)) 1 0
 immediate_result Sltui a imm12 = cond (less_unsigned a (sign_extend 12 imm12.value)) 1 0
-immediate_result AddiW a imm12 = sum a (sign_extend 12 imm12.value)
+immediate_result AddiW a imm12 = word_sum a (sign_extend 12 imm12.value)
 immediate_result Andi a imm12 = bit_and a (zero_extend 12 imm12.value)
 immediate_result Ori a imm12 = bit_or a (zero_extend 12 imm12.value)
 immediate_result Xori a imm12 = bit_xor a (zero_extend 12 imm12.value)
@@ -56,7 +56,7 @@ immediate_result Xori a imm12 = bit_xor a (zero_extend 12 imm12.value)
 -- of PC and si20
 abbrev pub upper_result : UpperOp → ℕ → Field 20 → ℕ
 upper_result Lu12iW pc si20 = upper20 si20.value
-upper_result Pcaddu12i pc si20 = sum pc (upper20 si20.value)
+upper_result Pcaddu12i pc si20 = word_sum pc (upper20 si20.value)
 
 -- whether the branch is taken, of GR[rj] and GR[rd]
 abbrev pub taken : BranchOp → ℕ → ℕ → Bool

@@ -98,16 +98,16 @@ not_zero : (b : ℕ) → (b ≡ 0 → ⊥) → eqb b 0 ≡ false
 not_zero b h = grind (arith, nat_tests)
 
 pub divides_signed : (a b : ℕ) → a < 2 ^ 32 → b < 2 ^ 32 → DividesSigned a b (quotient_signed a b) (remainder_signed a b)
-divides_signed a b fits-a fits-b some no_overflow =
+divides_signed a b fits_a fits_b some no_overflow =
     let x : ℤ = signed a in
     let y : ℤ = signed b in
-    let small : mag x < 2 ^ 31 = signed_small a fits-a in
+    let small : mag x < 2 ^ 31 = signed_small a fits_a in
     let quotient : signed (quotient_signed a b) ≡ quot_z x y =
     ap (λ t. signed (cond t 0xffffffff (low_word (quot_z x y)))) (not_zero b some)
-    ∙ back (quot_z x y) (quotient_small x y small (λ low minus. no_overflow (unsigned a fits-a _ low) (unsigned b fits-b _ minus))) in
+    ∙ back (quot_z x y) (quotient_small x y small (λ low minus. no_overflow (unsigned a fits_a _ low) (unsigned b fits_b _ minus))) in
     let remainder : signed (remainder_signed a b) ≡ rem_z x y =
     ap (λ t. signed (cond t a (low_word (rem_z x y)))) (not_zero b some)
     ∙ back (rem_z x y) (omega (arith, mag_rem x y, small)) in
-    let law : Divides x y (quot_z x y) (rem_z x y) = divides x y (λ zero-y. some (unsigned b fits-b _ zero-y)) in
+    let law : Divides x y (quot_z x y) (rem_z x y) = divides x y (λ zero_y. some (unsigned b fits_b _ zero_y)) in
     subst (λ (q : ℤ). Divides x y q (signed (remainder_signed a b))) (sym quotient)
     (subst (λ (r : ℤ). Divides x y (quot_z x y) r) (sym remainder) law)

@@ -18,11 +18,11 @@ low_bits k (negsuc n) = 2 ^ k - 1 - n % 2 ^ k
 abbrev pub low_word : ℤ → ℕ
 low_word z = low_bits 32 z
 
-abbrev pub sum : ℕ → ℕ → ℕ
-sum a b = (a + b) % 2 ^ 32
+abbrev pub word_sum : ℕ → ℕ → ℕ
+word_sum a b = (a + b) % 2 ^ 32
 
-abbrev pub difference : ℕ → ℕ → ℕ
-difference a b = low_word (pos a -ℤ pos b)
+abbrev pub word_difference : ℕ → ℕ → ℕ
+word_difference a b = low_word (pos a -ℤ pos b)
 
 abbrev pub less_signed : ℕ → ℕ → Bool
 less_signed a b = int_lt (signed a) (signed b)

@@ -1,15 +1,15 @@
 // Sums, comparisons, bits, shifts and products.
 ghost use Rattle.std.specs.Prelude.{◌≡◌, ◌*ℤ◌, bit_and, bit_or, bit_xor};
-ghost use Rattle.word.specs.Word.{sum, difference, less_signed, less_unsigned, nor, shift_left, shift_right, shift_right_signed, product_signed, product_low, product_high_signed, product_high_unsigned};
+ghost use Rattle.word.specs.Word.{word_sum, word_difference, less_signed, less_unsigned, nor, shift_left, shift_right, shift_right_signed, product_signed, product_low, product_high_signed, product_high_unsigned};
 
 pub fn add(a: u32, b: u32) -> u32
-    ensures { result ≡ sum a b }
+    ensures { result ≡ word_sum a b }
 {
     a.wrapping_add(b)
 }
 
 pub fn subtract(a: u32, b: u32) -> u32
-    ensures { result ≡ difference a b }
+    ensures { result ≡ word_difference a b }
 {
     a.wrapping_sub(b)
 }
