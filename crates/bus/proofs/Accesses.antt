@@ -6,12 +6,18 @@ use Rattle.bus.specs.declared.address.PhysAddr.{PhysAddr}
 use Rattle.bus.specs.declared.refusal.BoardRefusal.{BoardRefusal}
 use Rattle.bus.specs.declared.refusal.Refusal.{Refusal}
 use Rattle.bus.specs.declared.refusal.Refusal.TheVariants.{Absent, Fixed}
+use Rattle.bus.specs.declared.access.Width.{Width}
 use Rattle.bus.specs.Cell.{Cell, writable}
 use Rattle.bus.specs.Board.{range_check, where_accepted, offset_where, cells_from, part_cells, offset_in}
+use Rattle.bus.specs.Width.{width_bytes, access_check}
 use Rattle.bus.specs.Memory.{Memory, aligned, within, is_absent, is_fixed, unless_any, write_of, answer_of, memory_after, put}
 
 pub within_bounds : (a n x : ℕ) → within a n x ≡ true → (a ≤ x) × (x < a + n)
 within_bounds a n x e = grind (arith, nat_tests)
+
+-- a checked access is aligned, and has the width that the check gave
+pub access_checked : (a w : ℕ) (k : Width) → Ok k ≡ access_check a w → (aligned a w ≡ true) × (width_bytes k ≡ w)
+access_checked a w k e = (grind (arith, nat_tests), grind (arith, nat_tests))
 
 -- an aligned access that begins in a span of even ends lies in it, and one that begins outside stays outside
 module _ (b n a w x : ℕ) (even_base : b % 4 ≡ 0) (even_length : n % 4 ≡ 0) (fit : aligned a w ≡ true) (named : within a w x ≡ true) where

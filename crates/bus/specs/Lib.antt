@@ -1,7 +1,9 @@
 pub mod Cell
 pub mod Memory
+pub mod Width
 pub mod Layout
 pub mod Refusals
+pub mod Text
 pub mod Board
 pub mod Soundness
 pub mod Rules

@@ -1,25 +1,89 @@
-// What an access has to be before a bus looks at its bytes.
+// What a read or a write names, and what it has to be before a bus looks at its bytes.
 ghost use Rattle.std.specs.Prelude.{◌≡◌, Err};
 ghost use Rattle.bus.specs.Memory.{aligned, read_of};
+ghost use Rattle.bus.specs.Width.{width_of, width_bytes, access_check};
 ghost use Rattle.bus.specs.Board.{nothing};
 
 use crate::address::PhysAddr;
 use crate::refusal::Refusal;
 
-// Whether an access of `width` bytes may stand at `at`.
-pub fn is_aligned(at: PhysAddr, width: u32) -> bool
-    ensures { result ≡ aligned at.0 width }
-{
-    (width == 1 || width == 2 || width == 4) && at.0 % width == 0
+// How many bytes an access may name.
+#[derive(Clone, Copy, PartialEq, Eq, Debug)]
+pub enum Width {
+    Byte,
+    Half,
+    Word,
 }
 
-// Why an access to nothing is refused.
-pub fn missing(at: PhysAddr, width: u32) -> Refusal
-    ensures { Err result ≡ read_of nothing at.0 width }
-{
-    if is_aligned(at, width) {
-        Refusal::Absent(at)
-    } else {
-        Refusal::Misaligned
+impl Width {
+    pub fn bytes(self) -> u32
+        ensures { result ≡ width_bytes self }
+    {
+        match self {
+            Width::Byte => 1,
+            Width::Half => 2,
+            Width::Word => 4,
+        }
+    }
+}
+
+impl TryFrom<u32> for Width {
+    type Error = Refusal;
+
+    ghost try_from_gives = { λ bytes r. r ≡ width_of bytes };
+
+    fn try_from(bytes: u32) -> Result<Width, Refusal> {
+        match bytes {
+            1 => Ok(Width::Byte),
+            2 => Ok(Width::Half),
+            4 => Ok(Width::Word),
+            _ => Err(Refusal::Misaligned),
+        }
+    }
+}
+
+// `width` bytes from `at` on. The width is any number, since a bus answers to all of them.
+#[derive(Clone, Copy, PartialEq, Eq, Debug)]
+pub struct Access {
+    pub at: PhysAddr,
+    pub width: u32,
+}
+
+impl Access {
+    pub fn new(at: PhysAddr, width: u32) -> Access
+        ensures at { result.at ≡ at }
+        ensures width { result.width ≡ width }
+    {
+        Access { at, width }
+    }
+
+    // The width, if there is such a width and the address is a multiple of it.
+    pub fn check(self) -> Result<Width, Refusal>
+        ensures { result ≡ access_check self.at.0 self.width }
+    {
+        let width = Width::try_from(self.width)?;
+        if self.at.0 % width.bytes() == 0 {
+            Ok(width)
+        } else {
+            Err(Refusal::Misaligned)
+        }
+    }
+
+    // Whether it may stand where it stands.
+    pub fn is_aligned(self) -> bool
+        ensures { result ≡ aligned self.at.0 self.width }
+    {
+        self.check().is_ok()
+    }
+
+    // Why it is refused where nothing is.
+    pub fn missing(self) -> Refusal
+        ensures { Err result ≡ read_of nothing self.at.0 self.width }
+    {
+        if self.is_aligned() {
+            Refusal::Absent(self.at)
+        } else {
+            Refusal::Misaligned
+        }
     }
 }

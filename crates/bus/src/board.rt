@@ -7,16 +7,35 @@ use crate::refusal::BoardRefusal;
 
 const SPACE: u64 = 0x1_0000_0000;
 
-// Whether a part may have the `length` bytes from `base` on.
-pub fn check_range(base: PhysAddr, length: u64) -> Result<(), BoardRefusal>
-    ensures { result ≡ range_check base.0 length }
-{
-    if base.0 % 4 != 0 || length % 4 != 0 || length == 0 {
-        Err(BoardRefusal::Uneven)
-    } else if length > SPACE - base.0 as u64 {
-        Err(BoardRefusal::PastEnd)
-    } else {
-        Ok(())
+// `length` bytes from `base` on, where a part lies.
+#[derive(Clone, Copy, PartialEq, Eq, Debug)]
+pub struct Span {
+    pub base: PhysAddr,
+    pub length: u64,
+}
+
+impl Span {
+    // Whether a part may have it.
+    pub fn check(self) -> Result<(), BoardRefusal>
+        ensures { result ≡ range_check self.base.0 self.length }
+    {
+        if self.base.0 % 4 != 0 || self.length % 4 != 0 || self.length == 0 {
+            Err(BoardRefusal::Uneven)
+        } else if self.length > SPACE - u64::from(self.base.0) {
+            Err(BoardRefusal::PastEnd)
+        } else {
+            Ok(())
+        }
+    }
+
+    // How far `at` lies behind the base, if the part there has it. One made of refused numbers has nothing.
+    pub fn offset_of(self, at: PhysAddr) -> Option<u32>
+        ensures { result ≡ offset_in self.base.0 self.length at.0 }
+    {
+        self.check().ok()?;
+        // An address below the base wraps to a number that no accepted length reaches.
+        let offset = at.0.wrapping_sub(self.base.0);
+        (u64::from(offset) < self.length).then_some(offset)
     }
 }
 
@@ -24,25 +43,9 @@ pub fn check_range(base: PhysAddr, length: u64) -> Result<(), BoardRefusal>
 pub fn check_border(border: PhysAddr) -> Result<(), BoardRefusal>
     ensures { result ≡ border_check border.0 }
 {
-    if border.0 % 4 != 0 {
-        Err(BoardRefusal::Uneven)
-    } else {
+    if border.0 % 4 == 0 {
         Ok(())
-    }
-}
-
-// How far `at` lies behind `base`, if a part of `length` bytes from `base` on has it. One made of refused numbers has nothing.
-pub fn offset_in(base: PhysAddr, length: u64, at: PhysAddr) -> Option<u32>
-    ensures { result ≡ offset_in base.0 length at.0 }
-{
-    if check_range(base, length).is_err() {
-        return None;
-    }
-    // An address below the base wraps to a number that no accepted length reaches.
-    let offset = at.0.wrapping_sub(base.0);
-    if (offset as u64) < length {
-        Some(offset)
     } else {
-        None
+        Err(BoardRefusal::Uneven)
     }
 }

@@ -11,9 +11,9 @@ pub mod board;
 pub mod reference;
 pub mod refusal;
 
-pub use access::{is_aligned, missing};
+pub use access::{Access, Width};
 pub use address::PhysAddr;
-pub use board::{check_border, check_range, offset_in};
+pub use board::{Span, check_border};
 pub use refusal::{BoardRefusal, Refusal};
 
 pub trait Bus {
@@ -28,15 +28,15 @@ pub trait Bus {
     // the bank is gone.
     ghost layout: { Self → List Fixture };
 
-    // The `width` bytes from `at` on, the lowest first.
-    fn read(&mut self, at: PhysAddr, width: u32) -> Result<u32, Refusal>
-        ensures value { result ≡ read_of (byte self.old) at.0 width }
+    // The bytes that `access` names, the lowest first.
+    fn read(&mut self, access: Access) -> Result<u32, Refusal>
+        ensures value { result ≡ read_of (byte self.old) access.at.0 access.width }
         ensures same { byte self.new ≡ byte self.old }
         ensures kept { layout self.new ≡ layout self.old };
 
-    // Replaces the `width` bytes from `at` on by the low bytes of `value`, the lowest first.
-    fn write(&mut self, at: PhysAddr, width: u32, value: u32) -> Result<(), Refusal>
-        ensures value { result ≡ answer_of (write_of (byte self.old) at.0 width value) }
-        ensures after { byte self.new ≡ memory_after (byte self.old) (write_of (byte self.old) at.0 width value) }
+    // Replaces the bytes that `access` names by the low bytes of `value`, the lowest first.
+    fn write(&mut self, access: Access, value: u32) -> Result<(), Refusal>
+        ensures value { result ≡ answer_of (write_of (byte self.old) access.at.0 access.width value) }
+        ensures after { byte self.new ≡ memory_after (byte self.old) (write_of (byte self.old) access.at.0 access.width value) }
         ensures kept { layout self.new ≡ layout self.old };
 }

@@ -3,7 +3,7 @@ ghost use Rattle.std.specs.Prelude.{◌∷◌};
 ghost use Rattle.bus.specs.Layout.{number};
 
 use crate::Bus;
-use crate::address::PhysAddr;
+use crate::access::Access;
 use crate::refusal::Refusal;
 
 impl<B: Bus> Bus for &mut B {
@@ -13,11 +13,11 @@ impl<B: Bus> Bus for &mut B {
 
     ghost layout = { λ s. number s.ghost_name ∷ B.layout s.now };
 
-    fn read(&mut self, at: PhysAddr, width: u32) -> Result<u32, Refusal> {
-        (**self).read(at, width)
+    fn read(&mut self, access: Access) -> Result<u32, Refusal> {
+        (**self).read(access)
     }
 
-    fn write(&mut self, at: PhysAddr, width: u32, value: u32) -> Result<(), Refusal> {
-        (**self).write(at, width, value)
+    fn write(&mut self, access: Access, value: u32) -> Result<(), Refusal> {
+        (**self).write(access, value)
     }
 }

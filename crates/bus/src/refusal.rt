@@ -1,8 +1,11 @@
 // Why a bus call, or the making of a board, is refused.
-ghost use Rattle.std.specs.Prelude.{◌≡◌};
+ghost use Rattle.std.specs.Prelude.{◌≡◌, Some};
 ghost use Rattle.bus.specs.Refusals.{refusal_number, refusal_address, board_number};
+ghost use Rattle.bus.specs.Text.{refusal_text, board_refusal_text};
 
 use crate::address::PhysAddr;
+use std::error::Error;
+use std::fmt;
 
 // Why the bus did nothing.
 #[derive(Clone, Copy, PartialEq, Eq, Debug)]
@@ -36,6 +39,20 @@ impl Refusal {
     }
 }
 
+impl fmt::Display for Refusal {
+    ghost output = { λ e. Some (refusal_text e) };
+
+    fn fmt<W: fmt::Write>(&self, f: &mut fmt::Formatter<W>) -> fmt::Result {
+        let number = self.number();
+        match self.address() {
+            Some(at) => write!(f, "refused {number} at {at}"),
+            None => write!(f, "refused {number}"),
+        }
+    }
+}
+
+impl Error for Refusal {}
+
 // Why a board cannot be built of the numbers given.
 #[derive(Clone, Copy, PartialEq, Eq, Debug)]
 pub enum BoardRefusal {
@@ -55,3 +72,14 @@ impl BoardRefusal {
         }
     }
 }
+
+impl fmt::Display for BoardRefusal {
+    ghost output = { λ e. Some (board_refusal_text e) };
+
+    fn fmt<W: fmt::Write>(&self, f: &mut fmt::Formatter<W>) -> fmt::Result {
+        let number = self.number();
+        write!(f, "refused {number}")
+    }
+}
+
+impl Error for BoardRefusal {}

@@ -7,7 +7,7 @@ use Rattle.bus.specs.Cell.{absent, writable}
 use Rattle.bus.specs.Memory.{aligned, within, byte_of, write_of, put}
 use Rattle.bus.specs.Board.{range_check, where_accepted, cells_from, offset_in}
 use Rattle.bus.proofs.Accesses.{within_bounds, stays_inside, write_writable, Found, offset_found, part_is, Written, written_by, written_same}
-use Rattle.parts.specs.Parts.{byte_cell, bank_cells, hidden_where, hidden_bytes}
+use Rattle.parts.specs.Parts.{byte_cell, bank_cells}
 
 -- n cells from b on, of the list xs, and an access that begins in them
 module _ (b n : ℕ) (xs ys : List ℕ) (a w v i : ℕ) (place : Found b n a i) (fit : aligned a w ≡ true)
@@ -50,7 +50,7 @@ module _ (b n : ℕ) (xs ys : List ℕ) (a w v i : ℕ) (place : Found b n a i) 
   cells_written = written_by (cells_from b n (byte_cell writable xs)) (cells_from b n (byte_cell writable ys)) a w v (Ok (put (cells_from b n (byte_cell writable xs)) a w v)) done replaced
 
 -- a bank of xs at b, and its memory ys after the low bytes of v were stored at the place of an access
-module _ (b : ℕ) (xs ys : List ℕ) (a w v i : ℕ) (fit : true ≡ aligned a w) (at_place : Some i ≡ offset_in b (length xs) a) (as_long : length ys ≡ length xs)
+module _ (b : ℕ) (xs ys : List ℕ) (a w v i : ℕ) (fit : aligned a w ≡ true) (at_place : Some i ≡ offset_in b (length xs) a) (as_long : length ys ≡ length xs)
     (stored : (k : ℕ) → get_or ys k 0 ≡ cond (within i w k) (byte_of v (k - i)) (get_or xs k 0)) where
   place : Found b (length xs) a i
   place = offset_found b (length xs) a i at_place
@@ -60,10 +60,4 @@ module _ (b : ℕ) (xs ys : List ℕ) (a w v i : ℕ) (fit : true ≡ aligned a 
       written_same (cells_from b (length xs) (byte_cell writable xs)) (bank_cells b xs) (cells_from b (length xs) (byte_cell writable ys)) (bank_cells b ys) a w v (Ok tt)
       (sym (part_is b (length xs) (byte_cell writable xs) place.range.checked))
       (ap (λ n. where_accepted (range_check b n) (cells_from b n (byte_cell writable ys))) as_long ∙ part_is b (length xs) (byte_cell writable ys) place.range.checked)
-      (cells_written b (length xs) xs ys a w v i place (sym fit) stored)
-
-  pub none_hidden : hidden_bytes b ys ≡ hidden_bytes b xs
-  none_hidden =
-      ap (λ n. hidden_where (range_check b n) ys) as_long
-      ∙ ap (λ r. hidden_where r ys) place.range.checked
-      ∙ sym (ap (λ r. hidden_where r xs) place.range.checked)
+      (cells_written b (length xs) xs ys a w v i place fit stored)

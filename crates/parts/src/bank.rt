@@ -1,12 +1,11 @@
 // Memory that can be read and written, lent by the caller.
 ghost use Rattle.std.specs.Prelude.{◌≡◌, [], ◌∷◌};
 ghost use Rattle.bus.specs.Layout.{number, bytes};
-ghost use Rattle.bus.specs.Memory.{read_of};
 ghost use Rattle.parts.specs.Parts.{bank_cells, hidden_bytes};
 ghost use Rattle.parts.specs.Soundness.{bank_sound};
 
 use crate::lent;
-use bus::{Bus, PhysAddr, Refusal};
+use bus::{Access, Bus, PhysAddr, Refusal};
 
 // The caller's memory, from a base on, open.
 #[derive(Drop)]
@@ -24,13 +23,6 @@ impl<'a> Bank<'a> {
     {
         Bank { base, memory }
     }
-
-    // Through `&self`, since a shared loan of the memory out of `&mut self` would leave its bytes unknown to the proof.
-    fn look(&self, at: PhysAddr, width: u32) -> Result<u32, Refusal>
-        ensures { result ≡ read_of (bank_cells self.now.base.0 self.now.memory.now) at.0 width }
-    {
-        lent::read(self.base, self.memory, at, width)
-    }
 }
 
 impl Bus for Bank<'_> {
@@ -40,11 +32,12 @@ impl Bus for Bank<'_> {
 
     ghost layout = { λ s. number s.base.0 ∷ number s.memory.ghost_name ∷ bytes (hidden_bytes s.base.0 s.memory.now) ∷ [] };
 
-    fn read(&mut self, at: PhysAddr, width: u32) -> Result<u32, Refusal> {
-        self.look(at, width)
+    fn read(&mut self, access: Access) -> Result<u32, Refusal> {
+        // Lent as `&mut`, since a shared loan out of `&mut self` would leave the bytes unknown to the proof.
+        lent::read(self.base, &mut *self.memory, access)
     }
 
-    fn write(&mut self, at: PhysAddr, width: u32, value: u32) -> Result<(), Refusal> {
-        lent::write(self.base, self.memory, at, width, value)
+    fn write(&mut self, access: Access, value: u32) -> Result<(), Refusal> {
+        lent::write(self.base, self.memory, access, value)
     }
 }

@@ -1,47 +1,45 @@
 // Little-endian numbers in lent memory.
-ghost use Rattle.std.specs.Prelude.{◌≡◌, ℕ, ◌+◌, ◌-◌, ◌<◌, ◌≤◌, true, length, if◌then◌else◌, slice_index};
-ghost use Rattle.bus.specs.Memory.{is_width, within, byte_of};
+ghost use Rattle.std.specs.Prelude.{◌≡◌, ℕ, ◌+◌, ◌-◌, ◌≤◌, length, if◌then◌else◌, slice_index};
+ghost use Rattle.bus.specs.Memory.{within, byte_of};
+ghost use Rattle.bus.specs.Width.{width_bytes};
 ghost use Rattle.parts.specs.Bytes.{number_at};
 
-// The number in the `width` bytes from `at` on, the lowest first.
-pub(crate) fn load(memory: &[u8], at: usize, width: u32) -> u32
-    requires { (is_width width ≡ true) × (at + width ≤ length memory.now) }
-    ensures { result ≡ number_at memory.now at width }
+use bus::Width;
+
+// The number in the bytes from `at` on, the lowest first.
+pub(crate) fn load(memory: &[u8], at: usize, width: Width) -> u32
+    requires { at + width_bytes width ≤ length memory.now }
+    ensures { result ≡ number_at memory.now at (width_bytes width) }
 {
     match width {
-        1 => memory[at] as u32,
-        2 => memory[at] as u32 + memory[at + 1] as u32 * 0x100,
-        _ => memory[at] as u32
-            + memory[at + 1] as u32 * 0x100
-            + memory[at + 2] as u32 * 0x1_0000
-            + memory[at + 3] as u32 * 0x100_0000,
+        Width::Byte => u32::from(memory[at]),
+        Width::Half => u32::from(u16::from_le_bytes([memory[at], memory[at + 1]])),
+        Width::Word => u32::from_le_bytes([
+            memory[at],
+            memory[at + 1],
+            memory[at + 2],
+            memory[at + 3],
+        ]),
     }
 }
 
-// Fills `part`, of one, two or four bytes, with the low bytes of `value`, the lowest first.
-fn put_le(part: &mut [u8], value: u32)
-    requires { is_width (length part.old) ≡ true }
-    ensures { (k : ℕ) → k < length part.old → slice_index part.new k ≡ byte_of value k }
+// Writes the low bytes of `value` into the bytes from `at` on, and touches no other.
+pub(crate) fn store(memory: &mut [u8], at: usize, width: Width, value: u32)
+    requires { at + width_bytes width ≤ length memory.old }
+    ensures { (k : ℕ) → slice_index memory.new k ≡ (if within at (width_bytes width) k then byte_of value (k - at) else slice_index memory.old k) }
 {
-    match part.len() {
-        1 => part[0] = (value % 0x100) as u8,
-        2 => {
-            part[0] = (value % 0x100) as u8;
-            part[1] = (value / 0x100 % 0x100) as u8;
+    let [first, second, third, fourth] = value.to_le_bytes();
+    match width {
+        Width::Byte => memory[at] = first,
+        Width::Half => {
+            memory[at] = first;
+            memory[at + 1] = second;
         }
-        _ => {
-            part[0] = (value % 0x100) as u8;
-            part[1] = (value / 0x100 % 0x100) as u8;
-            part[2] = (value / 0x1_0000 % 0x100) as u8;
-            part[3] = (value / 0x100_0000) as u8;
+        Width::Word => {
+            memory[at] = first;
+            memory[at + 1] = second;
+            memory[at + 2] = third;
+            memory[at + 3] = fourth;
         }
     }
-}
-
-// Writes the low bytes of `value` into the `width` bytes from `at` on, and touches no other.
-pub(crate) fn store(memory: &mut [u8], at: usize, width: usize, value: u32)
-    requires { (is_width width ≡ true) × (at + width ≤ length memory.old) }
-    ensures { (k : ℕ) → slice_index memory.new k ≡ (if within at width k then byte_of value (k - at) else slice_index memory.old k) }
-{
-    put_le(&mut memory[at..at + width], value);
 }

@@ -5,7 +5,7 @@ ghost use Rattle.parts.specs.Parts.{image_cells};
 ghost use Rattle.parts.specs.Soundness.{image_sound};
 
 use crate::lent;
-use bus::{Bus, PhysAddr, Refusal, is_aligned, offset_in};
+use bus::{Access, Bus, PhysAddr, Refusal};
 
 // The caller's memory, from a base on, fixed.
 #[derive(Drop)]
@@ -31,17 +31,15 @@ impl Bus for Image<'_> {
 
     ghost layout = { λ s. number s.base.0 ∷ [] };
 
-    fn read(&mut self, at: PhysAddr, width: u32) -> Result<u32, Refusal> {
-        lent::read(self.base, self.memory, at, width)
+    fn read(&mut self, access: Access) -> Result<u32, Refusal> {
+        lent::read(self.base, self.memory, access)
     }
 
-    fn write(&mut self, at: PhysAddr, width: u32, _value: u32) -> Result<(), Refusal> {
-        if !is_aligned(at, width) {
-            return Err(Refusal::Misaligned);
-        }
-        match offset_in(self.base, self.memory.len() as u64, at) {
-            Some(_) => Err(Refusal::Fixed(at)),
-            None => Err(Refusal::Absent(at)),
+    fn write(&mut self, access: Access, _value: u32) -> Result<(), Refusal> {
+        access.check()?;
+        match lent::span(self.base, self.memory).offset_of(access.at) {
+            Some(_) => Err(Refusal::Fixed(access.at)),
+            None => Err(Refusal::Absent(access.at)),
         }
     }
 }

@@ -1,12 +1,11 @@
 // A port block: a few bytes of its own.
 ghost use Rattle.std.specs.Prelude.{◌≡◌, [], ◌∷◌};
 ghost use Rattle.bus.specs.Layout.{number};
-ghost use Rattle.bus.specs.Memory.{read_of};
 ghost use Rattle.parts.specs.Parts.{bank_cells, port_cells};
 ghost use Rattle.parts.specs.Soundness.{bank_sound};
 
 use crate::lent;
-use bus::{Bus, PhysAddr, Refusal};
+use bus::{Access, Bus, PhysAddr, Refusal};
 
 const PORT_BYTES: usize = 64;
 
@@ -27,13 +26,6 @@ impl Ports {
             cells: [0; PORT_BYTES],
         }
     }
-
-    // Through `&self`, since a shared loan of the cells out of `&mut self` would leave them unknown to the proof.
-    fn look(&self, at: PhysAddr, width: u32) -> Result<u32, Refusal>
-        ensures { result ≡ read_of (bank_cells self.now.base.0 self.now.cells) at.0 width }
-    {
-        lent::read(self.base, &self.cells, at, width)
-    }
 }
 
 impl Bus for Ports {
@@ -43,11 +35,11 @@ impl Bus for Ports {
 
     ghost layout = { λ s. number s.base.0 ∷ [] };
 
-    fn read(&mut self, at: PhysAddr, width: u32) -> Result<u32, Refusal> {
-        self.look(at, width)
+    fn read(&mut self, access: Access) -> Result<u32, Refusal> {
+        lent::read(self.base, &self.cells, access)
     }
 
-    fn write(&mut self, at: PhysAddr, width: u32, value: u32) -> Result<(), Refusal> {
-        lent::write(self.base, &mut self.cells, at, width, value)
+    fn write(&mut self, access: Access, value: u32) -> Result<(), Refusal> {
+        lent::write(self.base, &mut self.cells, access, value)
     }
 }

@@ -1,7 +1,17 @@
-use Rattle.parts.proofs.Storing.{bank_written, none_hidden}
+use Rattle.std.proofs.Common.{rules, ◌≡◌, ℕ, ◌-◌, cond, length, get_or, Some, subst}
+use Rattle.bus.specs.Memory.{within, byte_of}
+use Rattle.bus.specs.Board.{offset_in}
+use Rattle.bus.proofs.Accesses.{access_checked}
+use Rattle.parts.proofs.Storing.{bank_written}
 use Rattle.parts.proofs.lent.write.Goals as goal
 
-pub returns-in-Some : goal.returns-in-Some
-returns-in-Some c =
-    let written = bank_written c.args.base.0 c.args.memory.now c.store.new.memory c.args.at.0 c.args.width c.args.value c.in-Some.offset c.if-not-is_aligned.ensures c.in-Some.ensures c.store.auto.memory c.store.ensures in
-    record { value = written.answer; after = written.after; hidden = none_hidden c.args.base.0 c.args.memory.now c.store.new.memory c.args.at.0 c.args.width c.args.value c.in-Some.offset c.if-not-is_aligned.ensures c.in-Some.ensures c.store.auto.memory c.store.ensures }
+pub returns-clause-after : goal.returns-clause-after
+returns-clause-after c =
+    let xs = c.args.memory.now in
+    let ys = c.store.new.memory in
+    let a = c.args.access in
+    let i = c.in_ok-offset.offset in
+    let width = access_checked a.at.0 a.width c.in_ok-width.width (search rules) in
+    let found : Some i ≡ offset_in c.args.base.0 (length xs) a.at.0 = search rules in
+    let stored = subst (λ n. (k : ℕ) → get_or ys k 0 ≡ cond (within i n k) (byte_of c.args.value (k - i)) (get_or xs k 0)) width.1 c.store.ensures in
+    (bank_written c.args.base.0 xs ys a.at.0 a.width c.args.value i width.0 found c.store.auto.memory stored).after
