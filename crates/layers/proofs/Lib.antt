@@ -1,4 +1,3 @@
 pub mod Views
 pub mod Shifting
-pub mod Splitting
 pub mod Locking

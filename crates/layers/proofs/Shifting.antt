@@ -1,5 +1,5 @@
 -- An access to a shift is one to the bus below, base lower.
-use Rattle.std.proofs.Common.{◌≡◌, ℕ, ◌+◌, ◌-◌, ◌%◌, ◌^◌, ◌<◌, ◌≤◌, Bool, true, false, cond, ltb, Some, Err, Result, sym, refl, ap, ◌∙◌, arith}
+use Rattle.std.proofs.Common.{◌≡◌, ℕ, ◌+◌, ◌-◌, ◌%◌, ◌^◌, ◌<◌, ◌≤◌, Bool, true, false, cond, ltb, Some, Result, sym, refl, ap, ◌∙◌, arith}
 use mathlib.Core.Path.{fun_ext}
 use Rattle.std.proofs.lemmas.Bool.Decides.{nat_tests}
 use Rattle.std.proofs.lemmas.Bool.{cond-true, cond-false, and_from, lt-ltb}
@@ -81,9 +81,6 @@ module _ (f : Memory) (b n a w k : ℕ) (offset : Some k ≡ offset_in b n a) wh
   pub read_shown : (r : Result ℕ Refusal) → r ≡ read_of f k w → seen (moved_by b) (λ v. v) r ≡ read_of (shift_cells b n f) a w
   read_shown r e = ap (seen (moved_by b) (λ v. v)) e ∙ sym (cells_read f b n a w k place) ∙ sym (ap (λ m. read_of m a w) (is f))
 
-  pub refused_shown : (e e' : Refusal) → e' ≡ moved_by b e → Err e ≡ read_of f k w → Err e' ≡ read_of (shift_cells b n f) a w
-  refused_shown e e' p q = ap Err p ∙ read_shown (Err e) q
-
   pub written_shown : (v : ℕ) (r : Result (Unit {0}) Refusal) (g : Memory) → Written f k w v r g → Written (shift_cells b n f) a w v (seen (moved_by b) (λ u. u) r) (shift_cells b n g)
   written_shown v r g h =
       written_same (cells_from b n f) (shift_cells b n f) (cells_from b n g) (shift_cells b n g) a w v (seen (moved_by b) (λ u. u) r) (sym (is f)) (is g)
@@ -91,11 +88,6 @@ module _ (f : Memory) (b n a w k : ℕ) (offset : Some k ≡ offset_in b n a) wh
         answer = ap (seen (moved_by b) (λ u. u)) h.answer ∙ sym (ap answer_of (cells_write f b n a w k place v) ∙ seen_answer (moved_by b) (cells_from b n) (write_of f k w v));
         after = ap (cells_from b n) h.after ∙ sym (ap (memory_after (cells_from b n f)) (cells_write f b n a w k place v) ∙ seen_after (moved_by b) (cells_from b n) f (write_of f k w v));
       })
-
-  pub unwritten_shown : (v : ℕ) (e e' : Refusal) (g : Memory) → e' ≡ moved_by b e → Written f k w v (Err e) g → Written (shift_cells b n f) a w v (Err e') (shift_cells b n g)
-  unwritten_shown v e e' g p h =
-      let shown = written_shown v (Err e) g h in
-      record { answer = ap Err p ∙ shown.answer; after = shown.after }
 
   pub shift_hidden : (v : ℕ) (r : Result (Unit {0}) Refusal) (g : Memory) → Written f k w v r g → hidden_cells (shown_shifted b n) g ≡ hidden_cells (shown_shifted b n) f
   shift_hidden v r g h = hidden_kept (shown_shifted b n) f k w v (λ fit x e. and_from _ _ (ap is_accepted place.range.checked) (below x fit e)) r g h

@@ -4,28 +4,22 @@ ghost use Rattle.bus.specs.Layout.{number, cells, hidden_cells};
 ghost use Rattle.layers.specs.Layers.{shift_cells, moved_by, shown_shifted};
 ghost use Rattle.layers.specs.Soundness.{shift_sound};
 
-use bus::{Bus, PhysAddr, Refusal, missing, offset_in};
+use bus::{Access, Bus, PhysAddr, Refusal, Span};
 
-// The inner bus, from its address 0 on, seen from a base on for a length.
+// The inner bus, from its address 0 on, seen in the span.
 #[derive(Drop)]
 pub struct Shift<B> {
-    base: PhysAddr,
-    length: u64,
+    span: Span,
     inner: B,
 }
 
 impl<B: Bus> Shift<B> {
-    pub fn new(base: PhysAddr, length: u64, inner: B) -> Shift<B>
-        ensures cells { shift_cells result.base.0 result.length (B.byte result.inner) ≡ shift_cells base.0 length (B.byte inner) }
-        ensures base { result.base ≡ base }
-        ensures length { result.length ≡ length }
+    pub fn new(span: Span, inner: B) -> Shift<B>
+        ensures cells { shift_cells result.span.base.0 result.span.length (B.byte result.inner) ≡ shift_cells span.base.0 span.length (B.byte inner) }
+        ensures span { result.span ≡ span }
         ensures inner { result.inner ≡ inner }
     {
-        Shift {
-            base,
-            length,
-            inner,
-        }
+        Shift { span, inner }
     }
 }
 
@@ -35,35 +29,37 @@ fn moved(base: PhysAddr, refusal: Refusal) -> Refusal
 {
     match refusal {
         Refusal::Misaligned => Refusal::Misaligned,
-        Refusal::Absent(at) => Refusal::Absent(PhysAddr(at.0.wrapping_add(base.0))),
-        Refusal::Fixed(at) => Refusal::Fixed(PhysAddr(at.0.wrapping_add(base.0))),
+        Refusal::Absent(at) => Refusal::Absent(at.wrapping_add(base.0)),
+        Refusal::Fixed(at) => Refusal::Fixed(at.wrapping_add(base.0)),
     }
 }
 
 impl<B: Bus> Bus for Shift<B> {
-    ghost byte = { λ s. shift_cells s.base.0 s.length (B.byte s.inner) };
+    ghost byte = { λ s. shift_cells s.span.base.0 s.span.length (B.byte s.inner) };
 
-    ghost sound = { λ s. shift_sound s.base.0 s.length (B.byte s.inner) (B.sound s.inner) };
+    ghost sound = { λ s. shift_sound s.span.base.0 s.span.length (B.byte s.inner) (B.sound s.inner) };
 
-    ghost layout = { λ s. number s.base.0 ∷ number s.length ∷ cells (hidden_cells (shown_shifted s.base.0 s.length) (B.byte s.inner)) ∷ B.layout s.inner };
+    ghost layout = { λ s. number s.span.base.0 ∷ number s.span.length ∷ cells (hidden_cells (shown_shifted s.span.base.0 s.span.length) (B.byte s.inner)) ∷ B.layout s.inner };
 
-    fn read(&mut self, at: PhysAddr, width: u32) -> Result<u32, Refusal> {
-        match offset_in(self.base, self.length, at) {
-            Some(offset) => match self.inner.read(PhysAddr(offset), width) {
-                Ok(value) => Ok(value),
-                Err(refusal) => Err(moved(self.base, refusal)),
-            },
-            None => Err(missing(at, width)),
-        }
+    fn read(&mut self, access: Access) -> Result<u32, Refusal> {
+        let offset = self.span.offset_of(access.at).ok_or(access.missing())?;
+        let inner = Access {
+            at: PhysAddr(offset),
+            ..access
+        };
+        self.inner
+            .read(inner)
+            .map_err(|refusal| moved(self.span.base, refusal))
     }
 
-    fn write(&mut self, at: PhysAddr, width: u32, value: u32) -> Result<(), Refusal> {
-        match offset_in(self.base, self.length, at) {
-            Some(offset) => match self.inner.write(PhysAddr(offset), width, value) {
-                Ok(()) => Ok(()),
-                Err(refusal) => Err(moved(self.base, refusal)),
-            },
-            None => Err(missing(at, width)),
-        }
+    fn write(&mut self, access: Access, value: u32) -> Result<(), Refusal> {
+        let offset = self.span.offset_of(access.at).ok_or(access.missing())?;
+        let inner = Access {
+            at: PhysAddr(offset),
+            ..access
+        };
+        self.inner
+            .write(inner, value)
+            .map_err(|refusal| moved(self.span.base, refusal))
     }
 }

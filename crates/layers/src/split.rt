@@ -4,7 +4,7 @@ ghost use Rattle.bus.specs.Layout.{number, cells, hidden_cells};
 ghost use Rattle.layers.specs.Layers.{split_cells, shown_low, shown_high};
 ghost use Rattle.layers.specs.Soundness.{split_sound};
 
-use bus::{Bus, PhysAddr, Refusal, missing};
+use bus::{Access, Bus, PhysAddr, Refusal, check_border};
 
 // Addresses below the border mean the first bus, and the others the second.
 #[derive(Drop)]
@@ -32,23 +32,21 @@ impl<L: Bus, R: Bus> Bus for Split<L, R> {
 
     ghost layout = { λ s. number s.border.0 ∷ cells (hidden_cells (shown_low s.border.0) (L.byte s.low)) ∷ cells (hidden_cells (shown_high s.border.0) (R.byte s.high)) ∷ (L.layout s.low ++ R.layout s.high) };
 
-    fn read(&mut self, at: PhysAddr, width: u32) -> Result<u32, Refusal> {
-        if self.border.0 % 4 != 0 {
-            Err(missing(at, width))
-        } else if at.0 < self.border.0 {
-            self.low.read(at, width)
+    fn read(&mut self, access: Access) -> Result<u32, Refusal> {
+        check_border(self.border).map_err(|_| access.missing())?;
+        if access.at.0 < self.border.0 {
+            self.low.read(access)
         } else {
-            self.high.read(at, width)
+            self.high.read(access)
         }
     }
 
-    fn write(&mut self, at: PhysAddr, width: u32, value: u32) -> Result<(), Refusal> {
-        if self.border.0 % 4 != 0 {
-            Err(missing(at, width))
-        } else if at.0 < self.border.0 {
-            self.low.write(at, width, value)
+    fn write(&mut self, access: Access, value: u32) -> Result<(), Refusal> {
+        check_border(self.border).map_err(|_| access.missing())?;
+        if access.at.0 < self.border.0 {
+            self.low.write(access, value)
         } else {
-            self.high.write(at, width, value)
+            self.high.write(access, value)
         }
     }
 }

@@ -1,23 +1,15 @@
-use Rattle.std.proofs.Common.{◌∷◌, Ok, ap}
-use Rattle.bus.specs.Layout.{number, cells, hidden_cells}
-use Rattle.layers.specs.Layers.{shift_cells, shown_shifted}
-use Rattle.layers.proofs.Shifting.{read_shown, refused_shown}
+use Rattle.std.proofs.Common.{rules, ◌≡◌, Some, ◌∙◌}
+use Rattle.bus.specs.Board.{offset_in}
+use Rattle.layers.specs.Layers.{moved_by}
+use Rattle.layers.proofs.Views.{seen}
+use Rattle.layers.proofs.Shifting.{read_shown}
 use Rattle.layers.proofs.shift.ShiftBus.read.Goals as goal
 
-pub returns-in-Ok : goal.returns-in-Ok
-returns-in-Ok g c =
+pub returns-clause-value : goal.returns-clause-value
+returns-clause-value g c =
     let s = c.args.self.now in
-    record {
-      value = read_shown (g.B.Bus.byte s.inner) s.base.0 s.length c.args.at.0 c.args.width c.in-Some.offset c.in-Some.ensures (Ok c.in-Ok.value) c.in-Ok.ensures.value;
-      same = ap (shift_cells s.base.0 s.length) c.read.ensures.same;
-      kept = λ i. number s.base.0 ∷ number s.length ∷ cells (hidden_cells (shown_shifted s.base.0 s.length) (c.read.ensures.same i)) ∷ c.read.ensures.kept i;
-    }
-
-pub returns-in-Err : goal.returns-in-Err
-returns-in-Err g c =
-    let s = c.args.self.now in
-    record {
-      value = refused_shown (g.B.Bus.byte s.inner) s.base.0 s.length c.args.at.0 c.args.width c.in-Some.offset c.in-Some.ensures c.in-Err.refusal c.moved.result c.moved.ensures c.in-Err.ensures.value;
-      same = ap (shift_cells s.base.0 s.length) c.read.ensures.same;
-      kept = λ i. number s.base.0 ∷ number s.length ∷ cells (hidden_cells (shown_shifted s.base.0 s.length) (c.read.ensures.same i)) ∷ c.read.ensures.kept i;
-    }
+    let a = c.args.access in
+    let i = c.in_ok-offset.offset in
+    let found : Some i ≡ offset_in s.span.base.0 s.span.length a.at.0 = search rules in
+    let named : c.map_err.result ≡ seen (moved_by s.span.base.0) (λ v. v) c.read.result = search rules in
+    named ∙ read_shown (g.B.Bus.byte s.inner) s.span.base.0 s.span.length a.at.0 a.width i found c.read.result c.read.ensures.value

@@ -1,21 +1,27 @@
-use Rattle.std.proofs.Common.{◌∷◌, Ok, Err}
+use Rattle.std.proofs.Common.{rules, ◌≡◌, ◌∷◌, Some, ◌∙◌}
+use Rattle.bus.specs.Board.{offset_in}
 use Rattle.bus.specs.Layout.{number, cells}
 use Rattle.bus.proofs.Accesses.{Written}
-use Rattle.layers.proofs.Shifting.{written_shown, unwritten_shown, shift_hidden}
+use Rattle.layers.specs.Layers.{moved_by}
+use Rattle.layers.proofs.Views.{seen}
+use Rattle.layers.proofs.Shifting.{written_shown, shift_hidden}
 use Rattle.layers.proofs.shift.ShiftBus.write.Goals as goal
 
-pub returns-in-Ok : goal.returns-in-Ok
-returns-in-Ok g c =
+pub returns : goal.returns
+returns g c =
     let s = c.args.self.now in
-    let done : Written (g.B.Bus.byte s.inner) c.in-Some.offset c.args.width c.args.value (Ok tt) (g.B.Bus.byte c.write.new.self) = record { answer = c.in-Ok.ensures.value; after = c.write.ensures.after } in
-    let shown = written_shown (g.B.Bus.byte s.inner) s.base.0 s.length c.args.at.0 c.args.width c.in-Some.offset c.in-Some.ensures c.args.value (Ok tt) (g.B.Bus.byte c.write.new.self) done in
-    let hidden = shift_hidden (g.B.Bus.byte s.inner) s.base.0 s.length c.args.at.0 c.args.width c.in-Some.offset c.in-Some.ensures c.args.value (Ok tt) (g.B.Bus.byte c.write.new.self) done in
-    record { value = shown.answer; after = shown.after; kept = λ i. number s.base.0 ∷ number s.length ∷ cells (hidden i) ∷ c.write.ensures.kept i }
-
-pub returns-in-Err : goal.returns-in-Err
-returns-in-Err g c =
-    let s = c.args.self.now in
-    let done : Written (g.B.Bus.byte s.inner) c.in-Some.offset c.args.width c.args.value (Err c.in-Err.refusal) (g.B.Bus.byte c.write.new.self) = record { answer = c.in-Err.ensures.value; after = c.write.ensures.after } in
-    let shown = unwritten_shown (g.B.Bus.byte s.inner) s.base.0 s.length c.args.at.0 c.args.width c.in-Some.offset c.in-Some.ensures c.args.value c.in-Err.refusal c.moved.result (g.B.Bus.byte c.write.new.self) c.moved.ensures done in
-    let hidden = shift_hidden (g.B.Bus.byte s.inner) s.base.0 s.length c.args.at.0 c.args.width c.in-Some.offset c.in-Some.ensures c.args.value (Err c.in-Err.refusal) (g.B.Bus.byte c.write.new.self) done in
-    record { value = shown.answer; after = shown.after; kept = λ i. number s.base.0 ∷ number s.length ∷ cells (hidden i) ∷ c.write.ensures.kept i }
+    let a = c.args.access in
+    let i = c.in_ok-offset.offset in
+    let v = c.args.value in
+    let below = g.B.Bus.byte s.inner in
+    let left = g.B.Bus.byte c.write.new.self in
+    let found : Some i ≡ offset_in s.span.base.0 s.span.length a.at.0 = search rules in
+    let named : c.map_err.result ≡ seen (moved_by s.span.base.0) (λ u. u) c.write.result = search rules in
+    let done : Written below i a.width v c.write.result left = record { answer = c.write.ensures.value; after = c.write.ensures.after } in
+    let shown = written_shown below s.span.base.0 s.span.length a.at.0 a.width i found v c.write.result left done in
+    let hidden = shift_hidden below s.span.base.0 s.span.length a.at.0 a.width i found v c.write.result left done in
+    record {
+      value = named ∙ shown.answer;
+      after = shown.after;
+      kept = λ i. number s.span.base.0 ∷ number s.span.length ∷ cells (hidden i) ∷ c.write.ensures.kept i;
+    }
