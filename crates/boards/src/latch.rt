@@ -2,7 +2,7 @@
 ghost use Rattle.std.specs.Prelude.{◌≡◌, []};
 ghost use Rattle.boards.specs.Latch.{latch_cells, latch_sound};
 
-use bus::{Bus, PhysAddr, Refusal, is_aligned};
+use bus::{Access, Bus, PhysAddr, Refusal, Width};
 
 #[derive(Drop)]
 pub struct Latch {
@@ -25,31 +25,27 @@ impl Bus for Latch {
 
     ghost layout = { λ s. [] };
 
-    fn read(&mut self, at: PhysAddr, width: u32) -> Result<u32, Refusal> {
-        if !is_aligned(at, width) {
-            return Err(Refusal::Misaligned);
-        }
-        match (at.0, width) {
-            (0, 1) => Ok(self.setting as u32),
-            (1, 1) => Ok(self.model as u32),
-            (0, 2) => Ok(self.setting as u32 + self.model as u32 * 0x100),
-            (0, _) => Err(Refusal::Absent(PhysAddr(2))),
-            _ => Err(Refusal::Absent(at)),
+    fn read(&mut self, access: Access) -> Result<u32, Refusal> {
+        let width = access.check()?;
+        match (access.at.0, width) {
+            (0, Width::Byte) => Ok(u32::from(self.setting)),
+            (1, Width::Byte) => Ok(u32::from(self.model)),
+            (0, Width::Half) => Ok(u32::from(self.setting) + u32::from(self.model) * 0x100),
+            (0, Width::Word) => Err(Refusal::Absent(PhysAddr(2))),
+            _ => Err(Refusal::Absent(access.at)),
         }
     }
 
-    fn write(&mut self, at: PhysAddr, width: u32, value: u32) -> Result<(), Refusal> {
-        if !is_aligned(at, width) {
-            return Err(Refusal::Misaligned);
-        }
-        match (at.0, width) {
-            (0, 1) => {
+    fn write(&mut self, access: Access, value: u32) -> Result<(), Refusal> {
+        let width = access.check()?;
+        match (access.at.0, width) {
+            (0, Width::Byte) => {
                 self.setting = (value % 0x100) as u8;
                 Ok(())
             }
-            (1, 1) | (0, 2) => Err(Refusal::Fixed(PhysAddr(1))),
-            (0, _) => Err(Refusal::Absent(PhysAddr(2))),
-            _ => Err(Refusal::Absent(at)),
+            (1, Width::Byte) | (0, Width::Half) => Err(Refusal::Fixed(PhysAddr(1))),
+            (0, Width::Word) => Err(Refusal::Absent(PhysAddr(2))),
+            _ => Err(Refusal::Absent(access.at)),
         }
     }
 }

@@ -1,7 +1,8 @@
--- How addresses and refusals are written.
+-- How addresses, accesses and refusals are written.
 use Rattle.std.specs.Prelude.{ℕ, ◌-◌, List, [], ◌++◌, Some, None, Option, codes, decimal, length, replicate, true}
 use Rattle.std.specs.Fmt.{digits}
 use Rattle.bus.specs.declared.address.PhysAddr.{PhysAddr}
+use Rattle.bus.specs.declared.access.Access.{Access}
 use Rattle.bus.specs.declared.refusal.Refusal.{Refusal}
 use Rattle.bus.specs.declared.refusal.BoardRefusal.{BoardRefusal}
 use Rattle.bus.specs.Refusals.{refusal_number, refusal_address, board_number}
@@ -13,6 +14,9 @@ zeros_before k text = replicate (k - length text) 48 ++ text
 -- eight upper-case hexadecimal digits
 abbrev pub address_text : PhysAddr → List ℕ
 address_text at = codes "0x" ++ zeros_before 8 (digits 16 true at.0)
+
+abbrev pub access_text : Access → List ℕ
+access_text access = address_text access.at ++ (codes " " ++ decimal access.width)
 
 abbrev pub place_text : Option PhysAddr → List ℕ
 place_text None = []

@@ -1,11 +1,13 @@
 // What a read or a write names, and what it has to be before a bus looks at its bytes.
-ghost use Rattle.std.specs.Prelude.{◌≡◌, Err};
+ghost use Rattle.std.specs.Prelude.{◌≡◌, Err, Some};
 ghost use Rattle.bus.specs.Memory.{aligned, read_of};
 ghost use Rattle.bus.specs.Width.{width_of, width_bytes, access_check};
 ghost use Rattle.bus.specs.Board.{nothing};
+ghost use Rattle.bus.specs.Text.{access_text};
 
 use crate::address::PhysAddr;
 use crate::refusal::Refusal;
+use std::fmt;
 
 // How many bytes an access may name.
 #[derive(Clone, Copy, PartialEq, Eq, Debug)]
@@ -85,5 +87,14 @@ impl Access {
         } else {
             Refusal::Misaligned
         }
+    }
+}
+
+impl fmt::Display for Access {
+    ghost output = { λ access. Some (access_text access) };
+
+    fn fmt<W: fmt::Write>(&self, f: &mut fmt::Formatter<W>) -> fmt::Result {
+        let Access { at, width } = *self;
+        write!(f, "{at} {width}")
     }
 }

@@ -1,5 +1,5 @@
 -- What no list of calls changes.
-use Rattle.std.proofs.Common.{◌≡◌, ℕ, Bool, true, false, List, [], ◌∷◌, Ok, Err, Result, sym, refl, ap, ◌∙◌, subst, MatchResult}
+use Rattle.std.proofs.Common.{◌≡◌, ℕ, Bool, true, false, List, [], ◌∷◌, Result, sym, refl, ap, ◌∙◌}
 use Rattle.std.proofs.lemmas.Bool.{or_parts, both_ways}
 use Rattle.bus.specs.declared.refusal.Refusal.{Refusal}
 use Rattle.bus.specs.Memory.{Memory, is_absent, is_fixed, within, write_of, answer_of, memory_after}
@@ -55,20 +55,15 @@ module _ (m : Memory) (a w v : ℕ) where
 unmoved : (m : Memory) (cs : List Call) → Lasting m cs m
 unmoved m cs = record { unnamed = λ x e. refl; kept = λ x e. refl; absence = λ x. refl; fixity = λ x. refl }
 
-lasting : (m : Memory) (cs : List Call) → Lasting m cs (memory_through m cs)
+pub lasting : (m : Memory) (cs : List Call) → Lasting m cs (memory_through m cs)
 lasting m [] = unmoved m []
-lasting m (Read at w ∷ cs) = let rest = lasting m cs in record { unnamed = rest.unnamed; kept = rest.kept; absence = rest.absence; fixity = rest.fixity }
-lasting m (Write at w v ∷ cs) =
-    let one = write_once m at.0 w v in
-    let rest = lasting (memory_after m (write_of m at.0 w v)) cs in
+lasting m (Read a ∷ cs) = let rest = lasting m cs in record { unnamed = rest.unnamed; kept = rest.kept; absence = rest.absence; fixity = rest.fixity }
+lasting m (Write a v ∷ cs) =
+    let one = write_once m a.at.0 a.width v in
+    let rest = lasting (memory_after m (write_of m a.at.0 a.width v)) cs in
     record {
-      unnamed = λ x e. let parts = or_parts (within at.0 w x) (writes cs x) e in rest.unnamed x parts.1 ∙ one.unnamed x parts.0;
+      unnamed = λ x e. let parts = or_parts (within a.at.0 a.width x) (writes cs x) e in rest.unnamed x parts.1 ∙ one.unnamed x parts.0;
       kept = λ x e. rest.kept x (one.fixity x ∙ e) ∙ one.kept x e;
       absence = λ x. rest.absence x ∙ one.absence x;
       fixity = λ x. rest.fixity x ∙ one.fixity x;
     }
-
--- and it stays so where the calls were not made at all
-pub lasting_after : {X Y : Type 0} (m n : Memory) (cs : List Call) (r : Result X Y) → MatchResult r (λ _. n ≡ memory_through m cs) (λ _. n ≡ m) → Lasting m cs n
-lasting_after m n cs (Ok x) e = subst (Lasting m cs) (sym e) (lasting m cs)
-lasting_after m n cs (Err y) e = subst (Lasting m cs) (sym e) (unmoved m cs)

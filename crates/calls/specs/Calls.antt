@@ -8,12 +8,12 @@ use Rattle.calls.specs.declared.call.Answer.{Answer}
 use Rattle.calls.specs.declared.call.Answer.TheVariants as answer
 
 abbrev pub answer_to : Memory → Call → Answer
-answer_to m (Read at w) = answer.Read (read_of m at.0 w)
-answer_to m (Write at w v) = answer.Write (answer_of (write_of m at.0 w v))
+answer_to m (Read a) = answer.Read (read_of m a.at.0 a.width)
+answer_to m (Write a v) = answer.Write (answer_of (write_of m a.at.0 a.width v))
 
 abbrev pub memory_of : Memory → Call → Memory
-memory_of m (Read at w) = m
-memory_of m (Write at w v) = memory_after m (write_of m at.0 w v)
+memory_of m (Read a) = m
+memory_of m (Write a v) = memory_after m (write_of m a.at.0 a.width v)
 
 -- each call finds what those before it left
 abbrev pub answers_to : Memory → List Call → List Answer

@@ -11,16 +11,16 @@ use Rattle.calls.specs.declared.call.Answer.TheVariants as answer
 
 -- a call on m answers r and leaves n by the rules of the bus
 abbrev pub ByRule : Memory → Call → Answer → Memory → Type 0
-ByRule m (Read at w) (answer.Read r) n = ReadRule m at.0 w r × (n ≡ m)
-ByRule m (Read at w) (answer.Write r) n = ⊥
-ByRule m (Write at w v) (answer.Read r) n = ⊥
-ByRule m (Write at w v) (answer.Write r) n = WriteRule m at.0 w v r n
+ByRule m (Read a) (answer.Read r) n = ReadRule m a.at.0 a.width r × (n ≡ m)
+ByRule m (Read a) (answer.Write r) n = ⊥
+ByRule m (Write a v) (answer.Read r) n = ⊥
+ByRule m (Write a v) (answer.Write r) n = WriteRule m a.at.0 a.width v r n
 
 -- whether a write of the list names x
 abbrev pub writes : List Call → ℕ → Bool
 writes [] x = false
-writes (Read at w ∷ cs) x = writes cs x
-writes (Write at w v ∷ cs) x = within at.0 w x || writes cs x
+writes (Read a ∷ cs) x = writes cs x
+writes (Write a v ∷ cs) x = within a.at.0 a.width x || writes cs x
 
 -- whatever the list of calls that leads from m to n: no byte changes that no write of it names, no fixed byte changes,
 -- and none becomes absent, fixed or open that was not so

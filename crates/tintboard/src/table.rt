@@ -1,23 +1,24 @@
 // The tint table: four bytes a row, the colorant in the first and the shots in the upper two.
-ghost use Rattle.std.specs.Prelude.{◌≡◌, ◌+◌, ◌%◌, ◌^◌, IfOk, OnOk};
+ghost use Rattle.std.specs.Prelude.{◌≡◌, IfOk, OnOk};
 ghost use Rattle.calls.specs.Calls.{memory_through};
-ghost use Rattle.tintboard.specs.Table.{row_calls};
+ghost use Rattle.tintboard.specs.Table.{colorant_access, shots_access, row_calls};
 
 use crate::show;
-use bus::{Bus, PhysAddr, Refusal};
+use bus::{Access, Bus, PhysAddr, Refusal};
 use calls::{Call, write_verified};
+use std::io;
 
 // Which colorant, and how many shots of it go into a litre of base.
-#[derive(Clone, Copy)]
+#[derive(Clone, Copy, PartialEq, Eq, Debug)]
 pub(crate) struct Tint {
     colorant: u8,
     shots: u16,
 }
 
-const ROW_BYTES: u32 = 4;
+const ROW_BYTES: usize = 4;
 
 // All rows.
-pub(crate) const BYTES: u64 = 16;
+pub(crate) const BYTES: u32 = 16;
 
 const ROWS: [Tint; 4] = [
     Tint {
@@ -38,10 +39,16 @@ const ROWS: [Tint; 4] = [
     },
 ];
 
-fn shots_at(row: PhysAddr) -> PhysAddr
-    ensures { result.0 ≡ (row.0 + 2) % 2 ^ 32 }
+fn colorant_of(row: PhysAddr) -> Access
+    ensures { result ≡ colorant_access row.0 }
 {
-    PhysAddr(row.0.wrapping_add(2))
+    Access::new(row, 1)
+}
+
+fn shots_of(row: PhysAddr) -> Access
+    ensures { result ≡ shots_access row.0 }
+{
+    Access::new(row.wrapping_add(2), 2)
 }
 
 // Writes a row, and gives the row that the bus then holds: the same. Where the second write is refused, the first is done.
@@ -49,8 +56,8 @@ fn store<B: Bus>(board: &mut B, at: PhysAddr, row: Tint) -> Result<Tint, Refusal
     ensures row { IfOk result (λ stored. stored ≡ row) }
     ensures after { OnOk result (B.byte board.new ≡ memory_through (B.byte board.old) (row_calls at.0 row)) }
 {
-    let colorant = write_verified(board, at, 1, row.colorant as u32)?;
-    let shots = write_verified(board, shots_at(at), 2, row.shots as u32)?;
+    let colorant = write_verified(board, colorant_of(at), u32::from(row.colorant))?;
+    let shots = write_verified(board, shots_of(at), u32::from(row.shots))?;
     Ok(Tint {
         colorant: colorant as u8,
         shots: shots as u16,
@@ -60,23 +67,28 @@ fn store<B: Bus>(board: &mut B, at: PhysAddr, row: Tint) -> Result<Tint, Refusal
 // Loads the table from `at` on up to the first refusal, and prints each write that was read back.
 pub(crate) fn load<B: Bus>(rt: &HostRuntime, board: &mut B, at: PhysAddr) -> anyhow::Result<()> {
     println!(rt; "tint table")?;
-    let mut place = at;
-    for row in ROWS {
+    for (row, offset) in ROWS.into_iter().zip((0..BYTES).step_by(ROW_BYTES)) {
+        let place = at.wrapping_add(offset);
         match store(board, place, row) {
-            Ok(Tint { colorant, shots }) => {
-                show::verified(rt, place, 1, colorant as u32)?;
-                show::verified(rt, shots_at(place), 2, shots as u32)?;
-            }
+            Ok(stored) => show_stored(rt, place, stored)?,
             Err(refusal) => {
-                let address = place.0;
-                print!(rt; "row 0x{address:08X}: ")?;
-                show::refused(rt, refusal)?;
+                println!(rt; "row {place}: {refusal}")?;
                 return Ok(());
             }
         }
-        place = PhysAddr(place.0.wrapping_add(ROW_BYTES));
     }
     Ok(())
+}
+
+fn show_stored(rt: &HostRuntime, place: PhysAddr, row: Tint) -> io::Result<()> {
+    let colorant = colorant_of(place);
+    let shots = shots_of(place);
+    let Tint {
+        colorant: number,
+        shots: count,
+    } = row;
+    println!(rt; "write {colorant} 0x{number:X}: done and read back")?;
+    println!(rt; "write {shots} 0x{count:X}: done and read back")
 }
 
 // Reads every row in every width.
@@ -86,42 +98,13 @@ pub(crate) fn read_back<B: Bus>(
     at: PhysAddr,
 ) -> anyhow::Result<()> {
     println!(rt; "read back")?;
-    let mut place = at;
-    for _ in ROWS {
-        let second = PhysAddr(place.0.wrapping_add(1));
-        let fourth = PhysAddr(place.0.wrapping_add(3));
-        let list = [
-            Call::Read {
-                at: place,
-                width: 4,
-            },
-            Call::Read {
-                at: place,
-                width: 2,
-            },
-            Call::Read {
-                at: shots_at(place),
-                width: 2,
-            },
-            Call::Read {
-                at: place,
-                width: 1,
-            },
-            Call::Read {
-                at: second,
-                width: 1,
-            },
-            Call::Read {
-                at: shots_at(place),
-                width: 1,
-            },
-            Call::Read {
-                at: fourth,
-                width: 1,
-            },
-        ];
+    for offset in (0..BYTES).step_by(ROW_BYTES) {
+        let place = at.wrapping_add(offset);
+        let list = [(0, 4), (0, 2), (2, 2), (0, 1), (1, 1), (2, 1), (3, 1)].map(|(
+            byte,
+            width,
+        )| Call::Read(Access::new(place.wrapping_add(byte), width)));
         show::calls(rt, board, &list)?;
-        place = PhysAddr(place.0.wrapping_add(ROW_BYTES));
     }
     Ok(())
 }

@@ -1,12 +1,13 @@
-use Rattle.calls.proofs.Lasting.{lasting_after}
+use Rattle.std.proofs.Common.{◌≡◌, sym, subst, arith}
+use Rattle.std.proofs.lemmas.Grind.{common_steps}
+use Rattle.calls.specs.Calls.{memory_through}
+use Rattle.calls.specs.Laws.{Lasting}
+use Rattle.calls.proofs.Lasting.{lasting}
 use Rattle.calls.proofs.any_bus.perform_all.Goals as goal
 
-pub returns : goal.returns
-returns g c =
-    let told = c.ask_all.ensures in
-    record {
-      answers = told.answers;
-      after = told.after;
-      kept = told.kept;
-      lasting = lasting_after (g.B.Bus.byte c.args.bus.now) (g.B.Bus.byte c.ask_all.new.bus) c.args.calls.now c.ask_all.result told.after;
-    }
+pub returns-clause-lasting : goal.returns-clause-lasting
+returns-clause-lasting g c =
+    let m = g.B.Bus.byte c.args.bus.now in
+    let cs = c.args.calls.now in
+    let after : g.B.Bus.byte c.loop-call.bus ≡ memory_through m cs = grind (arith, common_steps) in
+    subst (Lasting m cs) (sym after) (lasting m cs)

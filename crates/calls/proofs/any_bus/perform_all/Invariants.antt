@@ -1,6 +1,6 @@
 use Rattle.std.proofs.Common.{◌≡◌, ◌≤◌, ◌++◌, length, drop, vec_items, vec_len, vec_capacity}
 use Rattle.calls.specs.Calls.{answers_to, memory_through}
-use Rattle.calls.proofs.any_bus.ask_all.Given as goal
+use Rattle.calls.proofs.any_bus.perform_all.Given as goal
 
 abbrev pub invariant-loop-call : goal.invariant-loop-call
 invariant-loop-call g l =
