@@ -54,7 +54,7 @@ fn registers_and(a: Reg, b: Reg, c: Operand) -> Operands
 fn code_and_address(code: Field<5>, rj: Reg, si12: Field<12>) -> Operands
     ensures { result ≡ Three (Unsigned code.value) (Gpr rj) (signed_field 12 si12) }
 {
-    Three(operand::number(code), Gpr(rj), operand::si12(si12))
+    Three(operand::number(code), Gpr(rj), operand::signed(si12))
 }
 
 fn operands_of(instruction: Instruction) -> Operands
@@ -77,20 +77,18 @@ fn operands_of(instruction: Instruction) -> Operands
         Instruction::Tlb { .. } | Instruction::Ertn => Operands::None,
         Instruction::Idle { level } => One(operand::number(level)),
         Instruction::Invtlb { op, rj, rk } => Three(operand::number(op), Gpr(rj), Gpr(rk)),
-        Instruction::Upper { rd, si20, .. } => Two(Gpr(rd), operand::si20(si20)),
-        Instruction::Ll { rd, rj, si14 } => registers_and(rd, rj, operand::si14(si14)),
-        Instruction::Sc { rd, rj, si14 } => registers_and(rd, rj, operand::si14(si14)),
-        Instruction::Load { rd, rj, si12, .. } => registers_and(rd, rj, operand::si12(si12)),
-        Instruction::Store { rd, rj, si12, .. } => registers_and(rd, rj, operand::si12(si12)),
+        Instruction::Upper { rd, si20, .. } => Two(Gpr(rd), operand::signed(si20)),
+        Instruction::Ll { rd, rj, si14 } | Instruction::Sc { rd, rj, si14 } => {
+            registers_and(rd, rj, operand::words(si14))
+        }
+        Instruction::Load { rd, rj, si12, .. } | Instruction::Store { rd, rj, si12, .. } => {
+            registers_and(rd, rj, operand::signed(si12))
+        }
         Instruction::Preld { hint, rj, si12 } => code_and_address(hint, rj, si12),
         Instruction::Dbar { hint } | Instruction::Ibar { hint } => One(operand::number(hint)),
-        Instruction::Jirl { rd, rj, offs16 } => registers_and(rd, rj, operand::offs16(offs16)),
-        Instruction::B { offs26 } | Instruction::Bl { offs26 } => One(operand::offs26(offs26)),
-        Instruction::Branch { rj, rd, offs16, .. } => registers_and(
-            rj,
-            rd,
-            operand::offs16(offs16),
-        ),
+        Instruction::Jirl { rd, rj, offs16 } => registers_and(rd, rj, operand::words(offs16)),
+        Instruction::B { offs26 } | Instruction::Bl { offs26 } => One(operand::words(offs26)),
+        Instruction::Branch { rj, rd, offs16, .. } => registers_and(rj, rd, operand::words(offs16)),
     }
 }
 
