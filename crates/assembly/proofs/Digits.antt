@@ -1,22 +1,80 @@
--- Hexadecimal digits as text: each is one byte.
-use Rattle.std.proofs.Common.{◌≡◌, ℕ, ◌/◌, ◌%◌, [], ◌∷◌, ◌++◌, codes, sym, ap, ◌∙◌, arith}
-use lib.Utf8.{encode}
-use Rattle.std.proofs.lemmas.Str.{encode_ascii}
-use Rattle.std.proofs.lemmas.Bool.Decides.{nat_tests}
-use Rattle.isa.specs.declared.field.Field.{Field}
-use Rattle.assembly.specs.declared.line.Operand.{Operand}
-use Rattle.assembly.specs.declared.line.Operand.TheVariants.{Csr}
-use Rattle.assembly.specs.Lines.{hex_digit, operand_text}
+-- Hexadecimal digits as text.
+use Rattle.std.proofs.Common.{◌≡◌, ℕ, suc, ◌-◌, ◌/◌, ◌%◌, ◌^◌, ◌<◌, ◌≤◌, true, false, List, [], ◌∷◌, ap, ◌∙◌, ⊎_elim, arith, eqb, ne_eqb}
+use Rattle.std.specs.Fmt.{digits, digits_onto, padded_integral, char_count, format_spec}
+use Rattle.std.proofs.lemmas.Fmt.{hex_one_digit, hex_two_digits}
+use Rattle.std.proofs.lemmas.Bool.{cases_lt}
+use Rattle.assembly.specs.Lines.{hex_digit}
 
-one_byte : (n : ℕ) → encode (hex_digit (n % 16)) ≡ hex_digit (n % 16) ∷ []
-one_byte n = encode_ascii (hex_digit (n % 16)) (grind (arith, nat_tests))
+-- the digits of a number, from the last one on, before those written so far
+last_digit : (k n : ℕ) (acc : List ℕ) → n < 16 → digits_onto (suc k) 16 true n acc ≡ hex_digit n ∷ acc
+last_digit k n acc small =
+    let zero : n / 16 ≡ 0 = omega arith in
+    let same : n % 16 ≡ n = omega arith in
+    rw (zero, same)
 
-digit : (d n : ℕ) → d ≡ hex_digit (n % 16) → encode d ≡ hex_digit (n % 16) ∷ []
-digit d n e = ap encode e ∙ one_byte n
+next_digit : (k n : ℕ) (acc : List ℕ) → 16 ≤ n → digits_onto (suc k) 16 true n acc ≡ digits_onto k 16 true (n / 16) (hex_digit (n % 16) ∷ acc)
+next_digit k n acc large =
+    let some : eqb (n / 16) 0 ≡ false = ne_eqb _ 0 (λ e. omega arith) in
+    rw some
 
-pub csr_text : (o : Operand) (n : Field 14) (a b c d : ℕ) → o ≡ Csr n
-    → a ≡ hex_digit (n.value / 4096 % 16) → b ≡ hex_digit (n.value / 256 % 16) → c ≡ hex_digit (n.value / 16 % 16) → d ≡ hex_digit (n.value % 16)
-    → codes "0x" ++ (encode a ++ (encode b ++ (encode c ++ encode d))) ≡ operand_text o
-csr_text o n a b c d is ea eb ec ed =
-    (λ i. codes "0x" ++ (digit a (n.value / 4096) ea i ++ (digit b (n.value / 256) eb i ++ (digit c (n.value / 16) ec i ++ digit d n.value ed i))))
-    ∙ ap operand_text (sym is)
+three_digits : (n : ℕ) → 256 ≤ n → n < 4096 → digits 16 true n ≡ hex_digit (n / 256) ∷ hex_digit (n / 16 % 16) ∷ hex_digit (n % 16) ∷ []
+unfolding digits
+three_digits n large small =
+    let top : n / 16 / 16 ≡ n / 256 = omega arith in
+    next_digit 63 n [] (omega arith)
+    ∙ next_digit 62 (n / 16) _ (omega arith)
+    ∙ last_digit 61 (n / 16 / 16) _ (omega arith)
+    ∙ ap (λ d. hex_digit d ∷ hex_digit (n / 16 % 16) ∷ hex_digit (n % 16) ∷ []) top
+
+four_digits : (n : ℕ) → 4096 ≤ n → n < 2 ^ 16 → digits 16 true n ≡ hex_digit (n / 4096) ∷ hex_digit (n / 256 % 16) ∷ hex_digit (n / 16 % 16) ∷ hex_digit (n % 16) ∷ []
+unfolding digits
+four_digits n large small =
+    let next : n / 16 / 16 ≡ n / 256 = omega arith in
+    let top : n / 16 / 16 / 16 ≡ n / 4096 = omega arith in
+    next_digit 63 n [] (omega arith)
+    ∙ next_digit 62 (n / 16) _ (omega arith)
+    ∙ next_digit 61 (n / 16 / 16) _ (omega arith)
+    ∙ last_digit 60 (n / 16 / 16 / 16) _ (omega arith)
+    ∙ (λ i. hex_digit (top i) ∷ hex_digit (next i % 16) ∷ hex_digit (n / 16 % 16) ∷ hex_digit (n % 16) ∷ [])
+
+-- what `{:04X}` writes of the number, and its four digits
+abbrev Written : ℕ → Type 0
+Written n = padded_integral (format_spec 32 0 4 4 (2 ^ 64 - 1)) false [] (digits 16 true n)
+    ≡ hex_digit (n / 4096 % 16) ∷ hex_digit (n / 256 % 16) ∷ hex_digit (n / 16 % 16) ∷ hex_digit (n % 16) ∷ []
+
+of_one : (n : ℕ) → n < 16 → Written n
+unfolding padded_integral char_count
+of_one n small =
+    let a : n / 4096 % 16 ≡ 0 = omega arith in
+    let b : n / 256 % 16 ≡ 0 = omega arith in
+    let c : n / 16 % 16 ≡ 0 = omega arith in
+    let d : n % 16 ≡ n = omega arith in
+    rw (hex_one_digit true n small, a, b, c, d)
+
+of_two : (n : ℕ) → 16 ≤ n → n < 256 → Written n
+unfolding padded_integral char_count
+of_two n large small =
+    let a : n / 4096 % 16 ≡ 0 = omega arith in
+    let b : n / 256 % 16 ≡ 0 = omega arith in
+    let c : n / 16 % 16 ≡ n / 16 = omega arith in
+    rw (hex_two_digits true n large small, a, b, c)
+
+of_three : (n : ℕ) → 256 ≤ n → n < 4096 → Written n
+unfolding padded_integral char_count
+of_three n large small =
+    let a : n / 4096 % 16 ≡ 0 = omega arith in
+    let b : n / 256 % 16 ≡ n / 256 = omega arith in
+    rw (three_digits n large small, a, b)
+
+of_four : (n : ℕ) → 4096 ≤ n → n < 2 ^ 16 → Written n
+unfolding padded_integral char_count
+of_four n large small =
+    let a : n / 4096 % 16 ≡ n / 4096 = omega arith in
+    rw (four_digits n large small, a)
+
+pub hex_four : (n : ℕ) → n < 2 ^ 16
+    → padded_integral (format_spec 32 0 4 4 (2 ^ 64 - 1)) false [] (digits 16 true n)
+    ≡ hex_digit (n / 4096 % 16) ∷ hex_digit (n / 256 % 16) ∷ hex_digit (n / 16 % 16) ∷ hex_digit (n % 16) ∷ []
+hex_four n small =
+    ⊎_elim (of_one n) (λ two. ⊎_elim (of_two n two) (λ three. ⊎_elim (of_three n three) (λ four. of_four n four small)
+    (cases_lt n 4096)) (cases_lt n 256)) (cases_lt n 16)

@@ -3,12 +3,12 @@ ghost use Rattle.std.specs.Prelude.{◌≡◌, Some};
 ghost use Rattle.isa.specs.Decoding.{decode_of};
 ghost use Rattle.assembly.specs.Disassembly.{Disassembled, disassembly_text};
 
-use crate::of_instruction::line_of;
+use crate::line::Line;
 use isa::{Instruction, decode};
 use std::fmt;
 
 // An instruction, or an undefined word, to be shown.
-#[derive(Clone, Copy)]
+#[derive(Clone, Copy, PartialEq, Eq, Debug)]
 pub struct Disassembly {
     pub instruction: Option<Instruction>,
 }
@@ -19,7 +19,7 @@ impl fmt::Display for Disassembly {
     fn fmt<W: fmt::Write>(&self, f: &mut fmt::Formatter<W>) -> fmt::Result {
         match self.instruction {
             Some(instruction) => {
-                let line = line_of(instruction);
+                let line = Line::from(instruction);
                 write!(f, "{line}")
             }
             None => write!(f, "undefined"),

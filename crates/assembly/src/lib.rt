@@ -5,9 +5,8 @@ pub mod disassembly;
 mod display;
 pub mod line;
 mod names;
-pub mod of_instruction;
+mod of_instruction;
 mod operand;
 
 pub use disassembly::{Disassembly, disassemble};
 pub use line::{Line, Operand, Operands};
-pub use of_instruction::line_of;

@@ -1,7 +1,7 @@
 // A line of assembly: a mnemonic and up to three operands.
 use isa::{Field, Reg};
 
-#[derive(Clone, Copy)]
+#[derive(Clone, Copy, PartialEq, Eq, Debug)]
 pub enum Operand {
     Gpr(Reg),
     Signed(i32),
@@ -9,7 +9,7 @@ pub enum Operand {
     Csr(Field<14>),
 }
 
-#[derive(Clone, Copy)]
+#[derive(Clone, Copy, PartialEq, Eq, Debug)]
 pub enum Operands {
     None,
     One(Operand),
@@ -17,7 +17,7 @@ pub enum Operands {
     Three(Operand, Operand, Operand),
 }
 
-#[derive(Clone, Copy)]
+#[derive(Clone, Copy, PartialEq, Eq, Debug)]
 pub struct Line {
     pub mnemonic: &'static str,
     pub operands: Operands,

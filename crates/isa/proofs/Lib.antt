@@ -2,4 +2,3 @@ mod Equal
 mod Sound
 mod Complete
 mod Law
-mod Words

@@ -7,36 +7,21 @@ use crate::instruction::{
     BranchOp, CounterHalf, ImmediateOp, Instruction, LoadOp, RegisterOp, ShiftOp, StoreOp, TlbOp,
     UpperOp,
 };
-use crate::word_fields::{low_bits, offs26, rd, rj, rj_from_1, rj_from_2, rk};
+use crate::word_fields::{low_bits, offs26, rd, rj, rj_from, rk};
 
 fn counter(word: u32) -> Option<Instruction>
     ensures { result ≡ counter_of (word / 2 ^ 10) word }
 {
     match word >> 10 {
-        0x18 => {
-            if (word >> 5) % 32 == 0 {
-                Some(Instruction::Rdcntv {
-                    half: CounterHalf::Low,
-                    rd: rd(word),
-                })
-            } else if word % 32 == 0 {
-                Some(Instruction::Rdcntid {
-                    rj: rj_from_1(word),
-                })
-            } else {
-                None
-            }
-        }
-        0x19 => {
-            if (word >> 5) % 32 == 0 {
-                Some(Instruction::Rdcntv {
-                    half: CounterHalf::High,
-                    rd: rd(word),
-                })
-            } else {
-                None
-            }
-        }
+        0x18 if (word >> 5) % 32 == 0 => Some(Instruction::Rdcntv {
+            half: CounterHalf::Low,
+            rd: rd(word),
+        }),
+        0x18 if word % 32 == 0 => Some(Instruction::Rdcntid { rj: rj_from(word) }),
+        0x19 if (word >> 5) % 32 == 0 => Some(Instruction::Rdcntv {
+            half: CounterHalf::High,
+            rd: rd(word),
+        }),
         _ => None,
     }
 }
@@ -143,7 +128,7 @@ fn csr(word: u32) -> Instruction
         1 => Instruction::Csrwr { rd: rd(word), csr },
         _ => Instruction::Csrxchg {
             rd: rd(word),
-            rj: rj_from_2(word),
+            rj: rj_from(word),
             csr,
         },
     }
@@ -341,6 +326,7 @@ fn by_highest_bits(word: u32) -> Option<Instruction>
 }
 
 // The instruction whose word this is, or nothing: a word of no row of the table is undefined.
+#[tactic(auto, using(crate::proofs::Law::exact), unfolding(crate::specs::Decoding::decode_of))]
 pub fn decode(word: u32) -> Option<Instruction>
     ensures exact { Exact word result }
     ensures words { HaveWords }

@@ -1,7 +1,7 @@
 // A field of an instruction word: a number of N bits, just as it stands in the word.
 ghost use Rattle.std.specs.Prelude.{◌≡◌, ◌^◌, ◌<◌};
 
-#[derive(Clone, Copy)]
+#[derive(Clone, Copy, PartialEq, Eq, Debug)]
 pub struct Field<const N: u32> {
     pub(crate) value: u32,
     ghost fits: { value < 2 ^ N },

@@ -3,13 +3,13 @@ use crate::field::Field;
 use crate::least_register::RegFrom;
 use crate::register::Reg;
 
-#[derive(Clone, Copy)]
+#[derive(Clone, Copy, PartialEq, Eq, Debug)]
 pub enum CounterHalf {
     Low,
     High,
 }
 
-#[derive(Clone, Copy)]
+#[derive(Clone, Copy, PartialEq, Eq, Debug)]
 pub enum RegisterOp {
     AddW,
     SubW,
@@ -31,14 +31,14 @@ pub enum RegisterOp {
     ModWu,
 }
 
-#[derive(Clone, Copy)]
+#[derive(Clone, Copy, PartialEq, Eq, Debug)]
 pub enum ShiftOp {
     SlliW,
     SrliW,
     SraiW,
 }
 
-#[derive(Clone, Copy)]
+#[derive(Clone, Copy, PartialEq, Eq, Debug)]
 pub enum ImmediateOp {
     Slti,
     Sltui,
@@ -48,7 +48,7 @@ pub enum ImmediateOp {
     Xori,
 }
 
-#[derive(Clone, Copy)]
+#[derive(Clone, Copy, PartialEq, Eq, Debug)]
 pub enum TlbOp {
     Tlbsrch,
     Tlbrd,
@@ -56,13 +56,13 @@ pub enum TlbOp {
     Tlbfill,
 }
 
-#[derive(Clone, Copy)]
+#[derive(Clone, Copy, PartialEq, Eq, Debug)]
 pub enum UpperOp {
     Lu12iW,
     Pcaddu12i,
 }
 
-#[derive(Clone, Copy)]
+#[derive(Clone, Copy, PartialEq, Eq, Debug)]
 pub enum LoadOp {
     LdB,
     LdH,
@@ -71,14 +71,14 @@ pub enum LoadOp {
     LdHu,
 }
 
-#[derive(Clone, Copy)]
+#[derive(Clone, Copy, PartialEq, Eq, Debug)]
 pub enum StoreOp {
     StB,
     StH,
     StW,
 }
 
-#[derive(Clone, Copy)]
+#[derive(Clone, Copy, PartialEq, Eq, Debug)]
 pub enum BranchOp {
     Beq,
     Bne,
@@ -88,7 +88,7 @@ pub enum BranchOp {
     Bgeu,
 }
 
-#[derive(Clone, Copy)]
+#[derive(Clone, Copy, PartialEq, Eq, Debug)]
 pub enum Instruction {
     Rdcntid {
         rj: RegFrom<1>,

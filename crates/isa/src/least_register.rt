@@ -3,7 +3,7 @@ ghost use Rattle.std.specs.Prelude.{◌≡◌, ◌%◌, ◌<◌, ◌≤◌, max}
 
 use crate::register::Reg;
 
-#[derive(Clone, Copy)]
+#[derive(Clone, Copy, PartialEq, Eq, Debug)]
 pub struct RegFrom<const LEAST: u32> {
     reg: Reg,
     ghost least: { LEAST ≤ reg.index },

@@ -1,7 +1,7 @@
 // The number of a general register.
 ghost use Rattle.std.specs.Prelude.{◌≡◌, ◌%◌, ◌<◌};
 
-#[derive(Clone, Copy)]
+#[derive(Clone, Copy, PartialEq, Eq, Debug)]
 pub struct Reg {
     pub(crate) index: u8,
     ghost fits: { index < 32 },
@@ -12,7 +12,7 @@ impl Reg {
         ensures within { result < 32 }
         ensures value { result ≡ self.index }
     {
-        self.index as usize
+        usize::from(self.index)
     }
 
     // Of a number's lowest five bits.

@@ -1,6 +1,5 @@
 // The fields of a word.
 ghost use Rattle.std.specs.Prelude.{◌≡◌, ◌/◌, ◌%◌, ◌^◌, ◌<◌};
-ghost use Rattle.std.proofs.Common.{lit<};
 ghost use Rattle.isa.specs.Fields.{reg_of, reg_from_of, field_of, offs26_of};
 
 use crate::field::Field;
@@ -25,14 +24,10 @@ pub(crate) fn rk(word: u32) -> Reg
     rd(word >> 10)
 }
 
-pub(crate) fn rj_from_1(word: u32) -> RegFrom<1>
-    ensures { result ≡ reg_from_of 1 (lit< tt) (word / 2 ^ 5) }
-{
-    RegFrom::of_low_bits(word >> 5)
-}
-
-pub(crate) fn rj_from_2(word: u32) -> RegFrom<2>
-    ensures { result ≡ reg_from_of 2 (lit< tt) (word / 2 ^ 5) }
+// The definition takes the fact that LEAST is a register's number, here by the name `fits`.
+pub(crate) fn rj_from<const LEAST: u32>(word: u32) -> RegFrom<LEAST>
+    requires { LEAST < 32 }
+    ensures { (fits : LEAST < 32) → result ≡ reg_from_of LEAST fits (word / 2 ^ 5) }
 {
     RegFrom::of_low_bits(word >> 5)
 }

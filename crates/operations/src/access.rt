@@ -3,7 +3,7 @@ ghost use Rattle.std.specs.Prelude.{◌≡◌};
 ghost use Rattle.operations.specs.Operations.{load_width, load_result, store_width};
 
 use isa::{LoadOp, StoreOp};
-use word::{sign_extend_byte, sign_extend_half, zero_extend_byte, zero_extend_half};
+use word::{sign_extend, zero_extend};
 
 pub fn load_width(op: LoadOp) -> u32
     ensures { result ≡ load_width op }
@@ -19,11 +19,11 @@ pub fn load_result(op: LoadOp, value: u32) -> u32
     ensures { result ≡ load_result op value }
 {
     match op {
-        LoadOp::LdB => sign_extend_byte(value),
-        LoadOp::LdH => sign_extend_half(value),
+        LoadOp::LdB => sign_extend::<8>(value),
+        LoadOp::LdH => sign_extend::<16>(value),
         LoadOp::LdW => value,
-        LoadOp::LdBu => zero_extend_byte(value),
-        LoadOp::LdHu => zero_extend_half(value),
+        LoadOp::LdBu => zero_extend::<8>(value),
+        LoadOp::LdHu => zero_extend::<16>(value),
     }
 }
 

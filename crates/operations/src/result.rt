@@ -6,8 +6,8 @@ use isa::{BranchOp, Field, ImmediateOp, RegisterOp, ShiftOp, UpperOp};
 use word::{
     add, and, is_less_signed, is_less_unsigned, nor, or, product_high_signed,
     product_high_unsigned, product_low, quotient_signed, quotient_unsigned, remainder_signed,
-    remainder_unsigned, shift_left, shift_right, shift_right_signed, sign_extend_12, subtract,
-    upper_20, xor, zero_extend_12,
+    remainder_unsigned, shift_left, shift_right, shift_right_signed, sign_extend, subtract,
+    upper_20, xor, zero_extend,
 };
 
 pub fn register_result(op: RegisterOp, rj: u32, rk: u32) -> u32
@@ -51,12 +51,12 @@ pub fn immediate_result(op: ImmediateOp, rj: u32, imm12: Field<12>) -> u32
 {
     let value = imm12.value();
     match op {
-        ImmediateOp::Slti => u32::from(is_less_signed(rj, sign_extend_12(value))),
-        ImmediateOp::Sltui => u32::from(is_less_unsigned(rj, sign_extend_12(value))),
-        ImmediateOp::AddiW => add(rj, sign_extend_12(value)),
-        ImmediateOp::Andi => and(rj, zero_extend_12(value)),
-        ImmediateOp::Ori => or(rj, zero_extend_12(value)),
-        ImmediateOp::Xori => xor(rj, zero_extend_12(value)),
+        ImmediateOp::Slti => u32::from(is_less_signed(rj, sign_extend::<12>(value))),
+        ImmediateOp::Sltui => u32::from(is_less_unsigned(rj, sign_extend::<12>(value))),
+        ImmediateOp::AddiW => add(rj, sign_extend::<12>(value)),
+        ImmediateOp::Andi => and(rj, zero_extend::<12>(value)),
+        ImmediateOp::Ori => or(rj, zero_extend::<12>(value)),
+        ImmediateOp::Xori => xor(rj, zero_extend::<12>(value)),
     }
 }
 

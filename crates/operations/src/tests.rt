@@ -46,10 +46,7 @@ fn result_of(instruction: Instruction, rj: u32, other: u32) -> Option<u32> {
 }
 
 fn check_word(rt: &impl Abort, word: u32, rj: u32, other: u32, expected: u32) {
-    let given = match decode(word) {
-        Some(instruction) => result_of(instruction, rj, other),
-        None => None,
-    };
+    let given = decode(word).and_then(|instruction| result_of(instruction, rj, other));
     assert_eq!(rt; given, Some(expected));
 }
 

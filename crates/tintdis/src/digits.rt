@@ -1,19 +1,9 @@
 // Hexadecimal digits, of either case.
 ghost use Rattle.std.specs.Prelude.{◌≡◌};
-ghost use Rattle.tintdis.specs.Digits.{digit_of, word_of};
-
-fn digit_of(byte: u8) -> Option<u32>
-    ensures { result ≡ digit_of byte }
-{
-    match byte {
-        b'0'..=b'9' => Some(u32::from(byte - b'0')),
-        b'A'..=b'F' => Some(u32::from(byte - b'A' + 10)),
-        b'a'..=b'f' => Some(u32::from(byte - b'a' + 10)),
-        _ => None,
-    }
-}
+ghost use Rattle.tintdis.specs.Digits.{word_of};
 
 // The word that eight digits write.
+#[tactic(auto, using(crate::proofs::Reading::room))]
 pub(crate) fn word_of(line: &[u8]) -> Option<u32>
     ensures { result ≡ word_of line.now }
 {
@@ -22,10 +12,7 @@ pub(crate) fn word_of(line: &[u8]) -> Option<u32>
     }
     let mut word = 0u32;
     for byte in line {
-        match digit_of(*byte) {
-            Some(digit) => word = word * 16 + digit,
-            None => return None,
-        }
+        word = word * 16 + char::from(*byte).to_digit(16)?;
     }
     Some(word)
 }

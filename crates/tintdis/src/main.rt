@@ -12,12 +12,10 @@ fn main(rt: HostRuntime) -> anyhow::Result<()> {
 }
 
 fn run(rt: &HostRuntime) -> anyhow::Result<()> {
-    let mut number = 0u64;
-    for line in BufReader::new(rt.alloc(), rt.stdin())?.split(rt.alloc(), b'\n') {
-        let digits = line?;
-        // No input has 2^64 lines.
-        number = number.wrapping_add(1);
-        show(rt, number, digits.as_slice())?;
+    let lines = BufReader::new(rt.alloc(), rt.stdin())?.split(rt.alloc(), b'\n');
+    // No input has 2^64 lines, so the numbers outlast it.
+    for (line, number) in lines.zip(1u64..) {
+        show(rt, number, line?.as_slice())?;
     }
     Ok(())
 }

@@ -71,7 +71,7 @@ pub fn shift_right_signed(a: u32, amount: u32) -> u32
 fn signed_product(a: i32, b: i32) -> i64
     ensures { result ≡ a *ℤ b }
 {
-    (a as i64) * (b as i64)
+    i64::from(a) * i64::from(b)
 }
 
 fn product_signed(a: u32, b: u32) -> u64

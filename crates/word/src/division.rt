@@ -31,12 +31,12 @@ pub fn quotient_unsigned(a: u32, b: u32) -> u32
     ensures value { result ≡ quotient_unsigned a b }
     ensures divides { DividesUnsigned a b result (remainder_unsigned a b) }
 {
-    if b == 0 { u32::MAX } else { a / b }
+    a.checked_div(b).unwrap_or(u32::MAX)
 }
 
 pub fn remainder_unsigned(a: u32, b: u32) -> u32
     ensures value { result ≡ remainder_unsigned a b }
     ensures divides { DividesUnsigned a b (quotient_unsigned a b) result }
 {
-    if b == 0 { a } else { a % b }
+    a.checked_rem(b).unwrap_or(a)
 }

@@ -4,58 +4,31 @@ ghost use Rattle.word.specs.Word.{sign_extend, zero_extend, sign_extend_times4, 
 
 use crate::arithmetic::{shift_left, shift_right_signed};
 
-pub fn sign_extend_byte(value: u32) -> u32
-    ensures { result ≡ sign_extend 8 value }
+#[tactic(auto, using(crate::proofs::Extending::sign_extend_by_shifts))]
+pub fn sign_extend<const N: u32>(value: u32) -> u32
+    ensures { result ≡ sign_extend N value }
 {
-    shift_right_signed(shift_left(value, 24), 24)
+    // A shift's amount is taken modulo 32, so one by 32 would keep the whole word.
+    if N == 0 {
+        return 0;
+    }
+    let spare = 32u32.saturating_sub(N);
+    shift_right_signed(shift_left(value, spare), spare)
 }
 
-pub fn sign_extend_half(value: u32) -> u32
-    ensures { result ≡ sign_extend 16 value }
+#[tactic(auto, using(crate::proofs::Extending::zero_extend_wide))]
+pub fn zero_extend<const N: u32>(value: u32) -> u32
+    ensures { result ≡ zero_extend N value }
 {
-    shift_right_signed(shift_left(value, 16), 16)
+    if N < 32 { value % (1 << N) } else { value }
 }
 
-pub fn zero_extend_byte(value: u32) -> u32
-    ensures { result ≡ zero_extend 8 value }
+// The field counts words, and the offset is in bytes.
+#[tactic(auto, using(crate::proofs::Extending::sign_extend_scaled))]
+pub fn offset<const N: u32>(value: u32) -> u32
+    ensures { result ≡ sign_extend_times4 N value }
 {
-    value % 256
-}
-
-pub fn zero_extend_half(value: u32) -> u32
-    ensures { result ≡ zero_extend 16 value }
-{
-    value % 65536
-}
-
-pub fn sign_extend_12(value: u32) -> u32
-    ensures { result ≡ sign_extend 12 value }
-{
-    shift_right_signed(shift_left(value, 20), 20)
-}
-
-pub fn zero_extend_12(value: u32) -> u32
-    ensures { result ≡ zero_extend 12 value }
-{
-    value % 4096
-}
-
-pub fn offset_14(value: u32) -> u32
-    ensures { result ≡ sign_extend_times4 14 value }
-{
-    shift_right_signed(shift_left(value, 18), 16)
-}
-
-pub fn offset_16(value: u32) -> u32
-    ensures { result ≡ sign_extend_times4 16 value }
-{
-    shift_right_signed(shift_left(value, 16), 14)
-}
-
-pub fn offset_26(value: u32) -> u32
-    ensures { result ≡ sign_extend_times4 26 value }
-{
-    shift_right_signed(shift_left(value, 6), 4)
+    shift_left(sign_extend::<N>(value), 2)
 }
 
 pub fn upper_20(value: u32) -> u32

@@ -10,7 +10,4 @@ pub use arithmetic::{
     product_high_unsigned, product_low, shift_left, shift_right, shift_right_signed, subtract, xor,
 };
 pub use division::{quotient_signed, quotient_unsigned, remainder_signed, remainder_unsigned};
-pub use extension::{
-    offset_14, offset_16, offset_26, sign_extend_12, sign_extend_byte, sign_extend_half, upper_20,
-    zero_extend_12, zero_extend_byte, zero_extend_half,
-};
+pub use extension::{offset, sign_extend, upper_20, zero_extend};

@@ -1,13 +1,9 @@
-use Rattle.std.proofs.Common.{◌≡◌, ℕ, sym, subst, rules}
-use Rattle.word.specs.Word.{quotient_signed, remainder_signed}
-use Rattle.word.specs.Division.{DividesSigned}
+use Rattle.std.proofs.Common.{◌≡◌, rules}
+use Rattle.word.specs.Word.{remainder_signed}
 use Rattle.word.proofs.Dividing.{divides_signed}
 use Rattle.word.proofs.division.remainder_signed.Goals as goal
 
-pub returns : goal.returns
-returns c =
+pub returns-clause-divides : goal.returns-clause-divides
+returns-clause-divides c =
     let value : c.cast_unsigned.result ≡ remainder_signed c.args.a c.args.b = search rules in
-    record {
-      value = value;
-      divides = subst (λ (r : ℕ). DividesSigned c.args.a c.args.b (quotient_signed c.args.a c.args.b) r) (sym value) (divides_signed c.args.a c.args.b c.ranges.a.fits c.ranges.b.fits);
-    }
+    rw value (divides_signed _ _ c.ranges.a.fits c.ranges.b.fits)

@@ -1,5 +1,0 @@
-use Rattle.isa.proofs.Equal.{reg_from_ext}
-use Rattle.isa.proofs.word_fields.rj_from_1.Goals as goal
-
-pub returns : goal.returns
-returns c = reg_from_ext 1 _ _ c.of_low_bits.ensures
