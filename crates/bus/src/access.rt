@@ -1,5 +1,5 @@
 // What a read or a write names, and what it has to be before a bus looks at its bytes.
-ghost use Rattle.std.specs.Prelude.{◌≡◌, Err, Some};
+ghost use Rattle.std.specs.Prelude.{◌≡◌, ◌%◌, ◌==◌, Err, Some};
 ghost use Rattle.bus.specs.Memory.{aligned, read_of};
 ghost use Rattle.bus.specs.Width.{width_of, width_bytes, access_check};
 ghost use Rattle.bus.specs.Board.{nothing};
@@ -25,6 +25,17 @@ impl Width {
             Width::Byte => 1,
             Width::Half => 2,
             Width::Word => 4,
+        }
+    }
+
+    // Whether the address is a multiple of it, by cases, so that no division is left for an access.
+    fn divides(self, at: PhysAddr) -> bool
+        ensures { result ≡ (at.0 % width_bytes self == 0) }
+    {
+        match self {
+            Width::Byte => true,
+            Width::Half => at.0 % 2 == 0,
+            Width::Word => at.0 % 4 == 0,
         }
     }
 }
@@ -64,7 +75,7 @@ impl Access {
         ensures { result ≡ access_check self.at.0 self.width }
     {
         let width = Width::try_from(self.width)?;
-        if self.at.0 % width.bytes() == 0 {
+        if width.divides(self.at) {
             Ok(width)
         } else {
             Err(Refusal::Misaligned)

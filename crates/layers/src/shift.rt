@@ -42,7 +42,10 @@ impl<B: Bus> Bus for Shift<B> {
     ghost layout = { λ s. number s.span.base.0 ∷ number s.span.length ∷ cells (hidden_cells (shown_shifted s.span.base.0 s.span.length) (B.byte s.inner)) ∷ B.layout s.inner };
 
     fn read(&mut self, access: Access) -> Result<u32, Refusal> {
-        let offset = self.span.offset_of(access.at).ok_or(access.missing())?;
+        let offset = self
+            .span
+            .offset_of(access.at)
+            .ok_or_else(|| access.missing())?;
         let inner = Access {
             at: PhysAddr(offset),
             ..access
@@ -53,7 +56,10 @@ impl<B: Bus> Bus for Shift<B> {
     }
 
     fn write(&mut self, access: Access, value: u32) -> Result<(), Refusal> {
-        let offset = self.span.offset_of(access.at).ok_or(access.missing())?;
+        let offset = self
+            .span
+            .offset_of(access.at)
+            .ok_or_else(|| access.missing())?;
         let inner = Access {
             at: PhysAddr(offset),
             ..access
