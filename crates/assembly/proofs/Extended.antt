@@ -1,16 +1,13 @@
 -- A field widened to a word is the field's integer.
-use Rattle.std.proofs.Common.{◌≡◌, ℕ, zero, suc, ◌+◌, ◌*◌, ◌%◌, ◌^◌, ◌<◌, ◌≤◌, ℤ, pos, negsuc, mod-lt, arith, w32}
+use Rattle.std.proofs.Common.{◌≡◌, ℕ, zero, suc, ◌+◌, ◌*◌, ◌%◌, ◌^◌, ◌<◌, ◌≤◌, mod-lt, arith, w32}
 use Rattle.std.specs.Int.RustNames.{FitsSigned}
 use Rattle.std.proofs.lemmas.Int.{ints}
 use Rattle.std.proofs.lemmas.Nat.{pow_pos}
 use Rattle.std.proofs.lemmas.Bool.Decides.{nat_tests}
 use Rattle.std.proofs.Math.Nat.{pow-suc}
 use Rattle.std.proofs.Math.Pow.{pow_mono}
-use Rattle.word.specs.Word.{signed, low_word, signed_bits, sign_extend, signed_bits_times4, sign_extend_times4}
-
-signed-low_word : (z : ℤ) → FitsSigned w32 z → signed (low_word z) ≡ z
-signed-low_word (pos n) fits = grind (arith, ints, nat_tests)
-signed-low_word (negsuc n) fits = grind (arith, ints, nat_tests)
+use Rattle.word.proofs.Dividing.{signed_of_low_word}
+use Rattle.word.specs.Word.{signed, signed_bits, sign_extend, signed_bits_times4, sign_extend_times4}
 
 signed_bits_fit : (k v : ℕ) → k ≤ 32 → FitsSigned w32 (signed_bits k v)
 signed_bits_fit zero v least = grind (arith, ints, nat_tests)
@@ -21,7 +18,7 @@ signed_bits_fit (suc k) v least =
     grind (arith, ints, nat_tests)
 
 pub signed_field_is : (k v : ℕ) → k ≤ 32 → signed (sign_extend k v) ≡ signed_bits k v
-signed_field_is k v least = signed-low_word (signed_bits k v) (signed_bits_fit k v least)
+signed_field_is k v least = signed_of_low_word (signed_bits k v) (signed_bits_fit k v least)
 
 pub words_field_is : (k v : ℕ) → k ≤ 30 → signed (sign_extend_times4 k v) ≡ signed_bits_times4 k v
-words_field_is k v least = signed-low_word (signed_bits_times4 k v) (signed_bits_fit (k + 2) (v % 2 ^ k * 4) (omega arith))
+words_field_is k v least = signed_of_low_word (signed_bits_times4 k v) (signed_bits_fit (k + 2) (v % 2 ^ k * 4) (omega arith))

@@ -8,13 +8,6 @@ fn access(at: u32, width: u32) -> Access {
     Access::new(PhysAddr(at), width)
 }
 
-fn span(base: u32, length: u64) -> Span {
-    Span {
-        base: PhysAddr(base),
-        length,
-    }
-}
-
 #[test]
 fn the_last_word_of_the_space(rt: HostRuntime) {
     let mut memory = [1u8, 2, 3, 4];
@@ -30,15 +23,18 @@ fn the_last_word_of_the_space(rt: HostRuntime) {
 
 #[test]
 fn a_window_over_the_whole_space(rt: HostRuntime) {
-    let mut window = Shift::new(span(0, 0x1_0000_0000), Ports::new(PhysAddr(0xffff_ffc0)));
+    let mut window = Shift::new(
+        Span::new(PhysAddr(0), 0x1_0000_0000),
+        Ports::new(PhysAddr(0xffff_ffc0)),
+    );
     assert_eq!(rt; window.write(access(0xffff_fffc, 4), 0x1122_3344), Ok(()));
     assert_eq!(rt; window.read(access(0xffff_fffe, 2)), Ok(0x1122));
 }
 
 #[test]
 fn the_lowest_byte_at_fault_through_two_windows(rt: HostRuntime) {
-    let inner = Shift::new(span(0x100, 0x10), Latch::new(0x42));
-    let mut outer = Shift::new(span(0x8000_0000, 0x1000), inner);
+    let inner = Shift::new(Span::new(PhysAddr(0x100), 0x10), Latch::new(0x42));
+    let mut outer = Shift::new(Span::new(PhysAddr(0x8000_0000), 0x1000), inner);
     assert_eq!(rt;
         outer.read(access(0x8000_0100, 4)),
         Err(Refusal::Absent(PhysAddr(0x8000_0102)))
@@ -59,7 +55,7 @@ fn a_lock_over_a_lent_board(rt: HostRuntime) {
         Ports::new(PhysAddr(0)),
         Image::new(PhysAddr(0x40), &rom),
     );
-    let mut locked = Lock::new(span(0x20, 0x100), &mut board);
+    let mut locked = Lock::new(Span::new(PhysAddr(0x20), 0x100), &mut board);
     assert_eq!(rt;
         locked.write(access(0x20, 4), 1),
         Err(Refusal::Fixed(PhysAddr(0x20)))

@@ -71,6 +71,11 @@ pub record Written (m : Memory) (a w v : ℕ) (r : Result (Unit {0}) Refusal) (n
   pub answer : r ≡ answer_of (write_of m a w v)
   pub after : n ≡ memory_after m (write_of m a w v)
 
+-- a refused write leaves what was there
+pub refused_after : (m n : Memory) (x : Result Memory Refusal) (e : Refusal) → Err e ≡ answer_of x → n ≡ m → n ≡ memory_after m x
+refused_after m n (Ok k) e p q = let z : ◌≡◌ {A = ℕ} 0 1 = cc in absurd (omega arith)
+refused_after m n (Err d) e p q = q
+
 pub written_by : (m n : Memory) (a w v : ℕ) (x : Result Memory Refusal) → write_of m a w v ≡ x → n ≡ memory_after m x → Written m a w v (answer_of x) n
 written_by m n a w v x e q = record { answer = sym (ap answer_of e); after = q ∙ sym (ap (memory_after m) e) }
 

@@ -1,8 +1,9 @@
--- How addresses, accesses and refusals are written.
+-- How addresses, accesses, spans and refusals are written.
 use Rattle.std.specs.Prelude.{ℕ, ◌-◌, List, [], ◌++◌, Some, None, Option, codes, decimal, length, replicate, true}
 use Rattle.std.specs.Fmt.{digits}
 use Rattle.bus.specs.declared.address.PhysAddr.{PhysAddr}
 use Rattle.bus.specs.declared.access.Access.{Access}
+use Rattle.bus.specs.declared.board.Span.{Span}
 use Rattle.bus.specs.declared.refusal.Refusal.{Refusal}
 use Rattle.bus.specs.declared.refusal.BoardRefusal.{BoardRefusal}
 use Rattle.bus.specs.Refusals.{refusal_number, refusal_address, board_number}
@@ -17,6 +18,10 @@ address_text at = codes "0x" ++ zeros_before 8 (digits 16 true at.0)
 
 abbrev pub access_text : Access → List ℕ
 access_text access = address_text access.at ++ (codes " " ++ decimal access.width)
+
+-- the length in upper-case hexadecimal digits
+abbrev pub span_text : Span → List ℕ
+span_text span = address_text span.base ++ (codes " 0x" ++ digits 16 true span.length)
 
 abbrev pub place_text : Option PhysAddr → List ℕ
 place_text None = []

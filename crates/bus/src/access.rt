@@ -1,7 +1,7 @@
 // What a read or a write names, and what it has to be before a bus looks at its bytes.
 ghost use Rattle.std.specs.Prelude.{◌≡◌, ◌%◌, ◌==◌, Err, Some};
 ghost use Rattle.bus.specs.Memory.{aligned, read_of};
-ghost use Rattle.bus.specs.Width.{width_of, width_bytes, access_check};
+ghost use Rattle.bus.specs.Width.{width_bytes, width_of, access_check};
 ghost use Rattle.bus.specs.Board.{nothing};
 ghost use Rattle.bus.specs.Text.{access_text};
 
@@ -18,16 +18,6 @@ pub enum Width {
 }
 
 impl Width {
-    pub fn bytes(self) -> u32
-        ensures { result ≡ width_bytes self }
-    {
-        match self {
-            Width::Byte => 1,
-            Width::Half => 2,
-            Width::Word => 4,
-        }
-    }
-
     // Whether the address is a multiple of it, by cases, so that no division is left for an access.
     fn divides(self, at: PhysAddr) -> bool
         ensures { result ≡ (at.0 % width_bytes self == 0) }
@@ -70,7 +60,7 @@ impl Access {
         Access { at, width }
     }
 
-    // The width, if there is such a width and the address is a multiple of it.
+    // The width, where the access is aligned.
     pub fn check(self) -> Result<Width, Refusal>
         ensures { result ≡ access_check self.at.0 self.width }
     {
@@ -82,7 +72,7 @@ impl Access {
         }
     }
 
-    // Whether it may stand where it stands.
+    // Whether there is such a width and the address is a multiple of it.
     pub fn is_aligned(self) -> bool
         ensures { result ≡ aligned self.at.0 self.width }
     {
@@ -93,11 +83,7 @@ impl Access {
     pub fn missing(self) -> Refusal
         ensures { Err result ≡ read_of nothing self.at.0 self.width }
     {
-        if self.is_aligned() {
-            Refusal::Absent(self.at)
-        } else {
-            Refusal::Misaligned
-        }
+        self.check().err().unwrap_or(Refusal::Absent(self.at))
     }
 }
 

@@ -1,9 +1,11 @@
 // What the numbers that a board is built of have to be, and which addresses a part has.
-ghost use Rattle.std.specs.Prelude.{◌≡◌};
+ghost use Rattle.std.specs.Prelude.{◌≡◌, Some};
 ghost use Rattle.bus.specs.Board.{range_check, border_check, offset_in};
+ghost use Rattle.bus.specs.Text.{span_text};
 
 use crate::address::PhysAddr;
 use crate::refusal::BoardRefusal;
+use std::fmt;
 
 const SPACE: u64 = 0x1_0000_0000;
 
@@ -15,6 +17,13 @@ pub struct Span {
 }
 
 impl Span {
+    pub fn new(base: PhysAddr, length: u64) -> Span
+        ensures base { result.base ≡ base }
+        ensures length { result.length ≡ length }
+    {
+        Span { base, length }
+    }
+
     // Whether a part may have it.
     pub fn check(self) -> Result<(), BoardRefusal>
         ensures { result ≡ range_check self.base.0 self.length }
@@ -36,6 +45,14 @@ impl Span {
         // An address below the base wraps to a number that no accepted length reaches.
         let offset = at.0.wrapping_sub(self.base.0);
         (u64::from(offset) < self.length).then_some(offset)
+    }
+}
+
+impl fmt::Display for Span {
+    ghost output = { λ span. Some (span_text span) };
+
+    fn fmt<W: fmt::Write>(&self, f: &mut fmt::Formatter<W>) -> fmt::Result {
+        write!(f, "{} 0x{:X}", self.base, self.length)
     }
 }
 

@@ -57,19 +57,16 @@ impl Error for Refusal {}
 #[derive(Clone, Copy, PartialEq, Eq, Debug)]
 pub enum BoardRefusal {
     // A base, length or border is no multiple of 4, or the length is 0.
-    Uneven,
+    Uneven = 1,
     // The range would pass the last address.
-    PastEnd,
+    PastEnd = 2,
 }
 
 impl BoardRefusal {
     pub fn number(self) -> u32
         ensures { result ≡ board_number self }
     {
-        match self {
-            BoardRefusal::Uneven => 1,
-            BoardRefusal::PastEnd => 2,
-        }
+        self as u32
     }
 }
 

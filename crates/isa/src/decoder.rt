@@ -1,5 +1,5 @@
 // How a word is read: by its highest six bits, then by those below that its group still leaves open.
-ghost use Rattle.std.specs.Prelude.{◌≡◌, ◌/◌, ◌%◌, ◌^◌};
+ghost use Rattle.std.specs.Prelude.{◌≡◌, ◌/◌, ◌%◌, ◌^◌, Some};
 ghost use Rattle.isa.specs.Table.{Exact, HaveWords};
 ghost use Rattle.isa.specs.Decoding.{counter_of, register_of, three_registers_of, shift_of, shifts_of, immediate_of, arithmetic_of, csr_of, whole_word_of, tlb_of, cache_of, system_of, upper_of, atomic_of, load_of, store_of, memory_of, barrier_of, branch_of, by_highest_bits, decode_of};
 
@@ -26,15 +26,15 @@ fn counter(word: u32) -> Option<Instruction>
     }
 }
 
-fn register(op: RegisterOp, word: u32) -> Option<Instruction>
-    ensures { result ≡ register_of op word }
+fn register(op: RegisterOp, word: u32) -> Instruction
+    ensures { Some result ≡ register_of op word }
 {
-    Some(Instruction::Register {
+    Instruction::Register {
         op,
         rd: rd(word),
         rj: rj(word),
         rk: rk(word),
-    })
+    }
 }
 
 fn three_registers(word: u32) -> Option<Instruction>
@@ -42,24 +42,24 @@ fn three_registers(word: u32) -> Option<Instruction>
 {
     match word >> 15 {
         0x00 => counter(word),
-        0x20 => register(RegisterOp::AddW, word),
-        0x22 => register(RegisterOp::SubW, word),
-        0x24 => register(RegisterOp::Slt, word),
-        0x25 => register(RegisterOp::Sltu, word),
-        0x28 => register(RegisterOp::Nor, word),
-        0x29 => register(RegisterOp::And, word),
-        0x2a => register(RegisterOp::Or, word),
-        0x2b => register(RegisterOp::Xor, word),
-        0x2e => register(RegisterOp::SllW, word),
-        0x2f => register(RegisterOp::SrlW, word),
-        0x30 => register(RegisterOp::SraW, word),
-        0x38 => register(RegisterOp::MulW, word),
-        0x39 => register(RegisterOp::MulhW, word),
-        0x3a => register(RegisterOp::MulhWu, word),
-        0x40 => register(RegisterOp::DivW, word),
-        0x41 => register(RegisterOp::ModW, word),
-        0x42 => register(RegisterOp::DivWu, word),
-        0x43 => register(RegisterOp::ModWu, word),
+        0x20 => Some(register(RegisterOp::AddW, word)),
+        0x22 => Some(register(RegisterOp::SubW, word)),
+        0x24 => Some(register(RegisterOp::Slt, word)),
+        0x25 => Some(register(RegisterOp::Sltu, word)),
+        0x28 => Some(register(RegisterOp::Nor, word)),
+        0x29 => Some(register(RegisterOp::And, word)),
+        0x2a => Some(register(RegisterOp::Or, word)),
+        0x2b => Some(register(RegisterOp::Xor, word)),
+        0x2e => Some(register(RegisterOp::SllW, word)),
+        0x2f => Some(register(RegisterOp::SrlW, word)),
+        0x30 => Some(register(RegisterOp::SraW, word)),
+        0x38 => Some(register(RegisterOp::MulW, word)),
+        0x39 => Some(register(RegisterOp::MulhW, word)),
+        0x3a => Some(register(RegisterOp::MulhWu, word)),
+        0x40 => Some(register(RegisterOp::DivW, word)),
+        0x41 => Some(register(RegisterOp::ModW, word)),
+        0x42 => Some(register(RegisterOp::DivWu, word)),
+        0x43 => Some(register(RegisterOp::ModWu, word)),
         0x54 => Some(Instruction::Break {
             code: low_bits(word),
         }),
@@ -70,37 +70,37 @@ fn three_registers(word: u32) -> Option<Instruction>
     }
 }
 
-fn shift(op: ShiftOp, word: u32) -> Option<Instruction>
-    ensures { result ≡ shift_of op word }
+fn shift(op: ShiftOp, word: u32) -> Instruction
+    ensures { Some result ≡ shift_of op word }
 {
-    Some(Instruction::Shift {
+    Instruction::Shift {
         op,
         rd: rd(word),
         rj: rj(word),
         ui5: low_bits(word >> 10),
-    })
+    }
 }
 
 fn shifts(word: u32) -> Option<Instruction>
     ensures { result ≡ shifts_of (word / 2 ^ 15) word }
 {
     match word >> 15 {
-        0x81 => shift(ShiftOp::SlliW, word),
-        0x89 => shift(ShiftOp::SrliW, word),
-        0x91 => shift(ShiftOp::SraiW, word),
+        0x81 => Some(shift(ShiftOp::SlliW, word)),
+        0x89 => Some(shift(ShiftOp::SrliW, word)),
+        0x91 => Some(shift(ShiftOp::SraiW, word)),
         _ => None,
     }
 }
 
-fn immediate(op: ImmediateOp, word: u32) -> Option<Instruction>
-    ensures { result ≡ immediate_of op word }
+fn immediate(op: ImmediateOp, word: u32) -> Instruction
+    ensures { Some result ≡ immediate_of op word }
 {
-    Some(Instruction::Immediate {
+    Instruction::Immediate {
         op,
         rd: rd(word),
         rj: rj(word),
         imm12: low_bits(word >> 10),
-    })
+    }
 }
 
 fn arithmetic(word: u32) -> Option<Instruction>
@@ -109,12 +109,12 @@ fn arithmetic(word: u32) -> Option<Instruction>
     match word >> 22 {
         0x00 => three_registers(word),
         0x01 => shifts(word),
-        0x08 => immediate(ImmediateOp::Slti, word),
-        0x09 => immediate(ImmediateOp::Sltui, word),
-        0x0a => immediate(ImmediateOp::AddiW, word),
-        0x0d => immediate(ImmediateOp::Andi, word),
-        0x0e => immediate(ImmediateOp::Ori, word),
-        0x0f => immediate(ImmediateOp::Xori, word),
+        0x08 => Some(immediate(ImmediateOp::Slti, word)),
+        0x09 => Some(immediate(ImmediateOp::Sltui, word)),
+        0x0a => Some(immediate(ImmediateOp::AddiW, word)),
+        0x0d => Some(immediate(ImmediateOp::Andi, word)),
+        0x0e => Some(immediate(ImmediateOp::Ori, word)),
+        0x0f => Some(immediate(ImmediateOp::Xori, word)),
         _ => None,
     }
 }
@@ -226,40 +226,40 @@ fn atomic(word: u32) -> Option<Instruction>
     }
 }
 
-fn load(op: LoadOp, word: u32) -> Option<Instruction>
-    ensures { result ≡ load_of op word }
+fn load(op: LoadOp, word: u32) -> Instruction
+    ensures { Some result ≡ load_of op word }
 {
-    Some(Instruction::Load {
+    Instruction::Load {
         op,
         rd: rd(word),
         rj: rj(word),
         si12: low_bits(word >> 10),
-    })
+    }
 }
 
-fn store(op: StoreOp, word: u32) -> Option<Instruction>
-    ensures { result ≡ store_of op word }
+fn store(op: StoreOp, word: u32) -> Instruction
+    ensures { Some result ≡ store_of op word }
 {
-    Some(Instruction::Store {
+    Instruction::Store {
         op,
         rd: rd(word),
         rj: rj(word),
         si12: low_bits(word >> 10),
-    })
+    }
 }
 
 fn memory(word: u32) -> Option<Instruction>
     ensures { result ≡ memory_of (word / 2 ^ 22) word }
 {
     match word >> 22 {
-        0xa0 => load(LoadOp::LdB, word),
-        0xa1 => load(LoadOp::LdH, word),
-        0xa2 => load(LoadOp::LdW, word),
-        0xa4 => store(StoreOp::StB, word),
-        0xa5 => store(StoreOp::StH, word),
-        0xa6 => store(StoreOp::StW, word),
-        0xa8 => load(LoadOp::LdBu, word),
-        0xa9 => load(LoadOp::LdHu, word),
+        0xa0 => Some(load(LoadOp::LdB, word)),
+        0xa1 => Some(load(LoadOp::LdH, word)),
+        0xa2 => Some(load(LoadOp::LdW, word)),
+        0xa4 => Some(store(StoreOp::StB, word)),
+        0xa5 => Some(store(StoreOp::StH, word)),
+        0xa6 => Some(store(StoreOp::StW, word)),
+        0xa8 => Some(load(LoadOp::LdBu, word)),
+        0xa9 => Some(load(LoadOp::LdHu, word)),
         0xab => Some(Instruction::Preld {
             hint: low_bits(word),
             rj: rj(word),
@@ -283,15 +283,15 @@ fn barrier(word: u32) -> Option<Instruction>
     }
 }
 
-fn branch(op: BranchOp, word: u32) -> Option<Instruction>
-    ensures { result ≡ branch_of op word }
+fn branch(op: BranchOp, word: u32) -> Instruction
+    ensures { Some result ≡ branch_of op word }
 {
-    Some(Instruction::Branch {
+    Instruction::Branch {
         op,
         rj: rj(word),
         rd: rd(word),
         offs16: low_bits(word >> 10),
-    })
+    }
 }
 
 fn by_highest_bits(word: u32) -> Option<Instruction>
@@ -315,12 +315,12 @@ fn by_highest_bits(word: u32) -> Option<Instruction>
         0x15 => Some(Instruction::Bl {
             offs26: offs26(word),
         }),
-        0x16 => branch(BranchOp::Beq, word),
-        0x17 => branch(BranchOp::Bne, word),
-        0x18 => branch(BranchOp::Blt, word),
-        0x19 => branch(BranchOp::Bge, word),
-        0x1a => branch(BranchOp::Bltu, word),
-        0x1b => branch(BranchOp::Bgeu, word),
+        0x16 => Some(branch(BranchOp::Beq, word)),
+        0x17 => Some(branch(BranchOp::Bne, word)),
+        0x18 => Some(branch(BranchOp::Blt, word)),
+        0x19 => Some(branch(BranchOp::Bge, word)),
+        0x1a => Some(branch(BranchOp::Bltu, word)),
+        0x1b => Some(branch(BranchOp::Bgeu, word)),
         _ => None,
     }
 }

@@ -38,12 +38,10 @@ impl<B: Bus> Bus for Lock<B> {
     // Inside the span a write is refused as a read is, and where a read is answered, as fixed.
     fn write(&mut self, access: Access, value: u32) -> Result<(), Refusal> {
         self.span.check().map_err(|_| access.missing())?;
-        match self.span.offset_of(access.at) {
-            Some(_) => {
-                self.inner.read(access)?;
-                Err(Refusal::Fixed(access.at))
-            }
-            None => self.inner.write(access, value),
+        if self.span.offset_of(access.at).is_none() {
+            return self.inner.write(access, value);
         }
+        self.inner.read(access)?;
+        Err(Refusal::Fixed(access.at))
     }
 }

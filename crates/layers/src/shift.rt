@@ -1,6 +1,8 @@
 // A bus seen at other addresses.
-ghost use Rattle.std.specs.Prelude.{◌≡◌, ◌∷◌};
+ghost use Rattle.std.specs.Prelude.{◌≡◌, ◌∷◌, Some, None, Err, MatchResult};
+ghost use Rattle.bus.specs.Board.{nothing, offset_in};
 ghost use Rattle.bus.specs.Layout.{number, cells, hidden_cells};
+ghost use Rattle.bus.specs.Memory.{read_of};
 ghost use Rattle.layers.specs.Layers.{shift_cells, moved_by, shown_shifted};
 ghost use Rattle.layers.specs.Soundness.{shift_sound};
 
@@ -20,6 +22,20 @@ impl<B: Bus> Shift<B> {
         ensures inner { result.inner ≡ inner }
     {
         Shift { span, inner }
+    }
+
+    // The access as the inner bus takes it; outside the span there is nothing to take it.
+    fn lowered(&self, access: Access) -> Result<Access, Refusal>
+        ensures { MatchResult result (λ inner. (Some inner.at.0 ≡ offset_in self.now.span.base.0 self.now.span.length access.at.0) × (inner.width ≡ access.width)) (λ e. (None ≡ offset_in self.now.span.base.0 self.now.span.length access.at.0) × (Err e ≡ read_of nothing access.at.0 access.width)) }
+    {
+        let offset = self
+            .span
+            .offset_of(access.at)
+            .ok_or_else(|| access.missing())?;
+        Ok(Access {
+            at: PhysAddr(offset),
+            ..access
+        })
     }
 }
 
@@ -42,28 +58,14 @@ impl<B: Bus> Bus for Shift<B> {
     ghost layout = { λ s. number s.span.base.0 ∷ number s.span.length ∷ cells (hidden_cells (shown_shifted s.span.base.0 s.span.length) (B.byte s.inner)) ∷ B.layout s.inner };
 
     fn read(&mut self, access: Access) -> Result<u32, Refusal> {
-        let offset = self
-            .span
-            .offset_of(access.at)
-            .ok_or_else(|| access.missing())?;
-        let inner = Access {
-            at: PhysAddr(offset),
-            ..access
-        };
+        let inner = self.lowered(access)?;
         self.inner
             .read(inner)
             .map_err(|refusal| moved(self.span.base, refusal))
     }
 
     fn write(&mut self, access: Access, value: u32) -> Result<(), Refusal> {
-        let offset = self
-            .span
-            .offset_of(access.at)
-            .ok_or_else(|| access.missing())?;
-        let inner = Access {
-            at: PhysAddr(offset),
-            ..access
-        };
+        let inner = self.lowered(access)?;
         self.inner
             .write(inner, value)
             .map_err(|refusal| moved(self.span.base, refusal))

@@ -35,11 +35,9 @@ impl Bus for Image<'_> {
         lent::read(self.base, self.memory, access)
     }
 
+    // A write is refused as a read is, and where a read is answered, as fixed.
     fn write(&mut self, access: Access, _value: u32) -> Result<(), Refusal> {
-        access.check()?;
-        match lent::span(self.base, self.memory).offset_of(access.at) {
-            Some(_) => Err(Refusal::Fixed(access.at)),
-            None => Err(Refusal::Absent(access.at)),
-        }
+        lent::read(self.base, self.memory, access)?;
+        Err(Refusal::Fixed(access.at))
     }
 }

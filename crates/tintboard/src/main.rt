@@ -30,7 +30,7 @@ fn run(rt: &HostRuntime) -> anyhow::Result<()> {
     let mut ram = [0u8; 256];
     let rom = [0x00u8, 0x00, 0x48, 0x02, 0x78, 0x56, 0x34, 0x12];
     let bank = Bank::new(RAM, &mut ram);
-    let devices = Shift::new(span(DEVICES, WINDOW_BYTES), Ports::new(PhysAddr(0)));
+    let devices = Shift::new(Span::new(DEVICES, WINDOW_BYTES), Ports::new(PhysAddr(0)));
     let upper = Split::new(DEVICES, Image::new(ROM, &rom), devices);
     let mut board = Split::new(ROM, bank, upper);
     table::load(rt, &mut board, TABLE)?;
@@ -55,19 +55,15 @@ fn write(at: u32, width: u32, value: u32) -> Call {
     }
 }
 
-fn span(base: PhysAddr, length: u64) -> Span {
-    Span { base, length }
-}
-
 // Numbers that a board may be built of, and numbers that it may not.
 fn check_numbers(rt: &HostRuntime) -> anyhow::Result<()> {
     println!(rt; "numbers")?;
-    show::range(rt, span(RAM, 256))?;
-    show::range(rt, span(PhysAddr(0xffff_fffc), 4))?;
-    show::range(rt, span(RAM, 0x1_0000_0000))?;
-    show::range(rt, span(PhysAddr(2), 256))?;
-    show::range(rt, span(RAM, 0))?;
-    show::range(rt, span(PhysAddr(0xffff_fffc), 8))?;
+    show::range(rt, Span::new(RAM, 256))?;
+    show::range(rt, Span::new(PhysAddr(0xffff_fffc), 4))?;
+    show::range(rt, Span::new(RAM, 0x1_0000_0000))?;
+    show::range(rt, Span::new(PhysAddr(2), 256))?;
+    show::range(rt, Span::new(RAM, 0))?;
+    show::range(rt, Span::new(PhysAddr(0xffff_fffc), 8))?;
     show::border(rt, ROM)?;
     show::border(rt, PhysAddr(0x1c00_0002))?;
     Ok(())
@@ -108,7 +104,7 @@ fn try_refused<B: Bus>(rt: &HostRuntime, board: &mut B) -> anyhow::Result<()> {
 // The board, lent to a lock over the table, and then again without it.
 fn try_locked<B: Bus + Drop>(rt: &HostRuntime, board: &mut B) -> anyhow::Result<()> {
     println!(rt; "table locked")?;
-    let mut locked = Lock::new(span(TABLE, u64::from(table::BYTES)), &mut *board);
+    let mut locked = Lock::new(table::span(TABLE), &mut *board);
     let list = [
         write(0x40, 1, 0x63),
         read(0x40, 1),
@@ -125,7 +121,7 @@ fn try_locked<B: Bus + Drop>(rt: &HostRuntime, board: &mut B) -> anyhow::Result<
 // A device whose bytes are not all alike: a refusal names the lowest byte at fault, and not the address of the call.
 fn try_across(rt: &HostRuntime) -> anyhow::Result<()> {
     println!(rt; "across a device's end")?;
-    let mut window = Shift::new(span(PhysAddr(0x1fe0_0100), 4), Latch::new(0x42));
+    let mut window = Shift::new(Span::new(PhysAddr(0x1fe0_0100), 4), Latch::new(0x42));
     let list = [
         write(0x1fe0_0100, 1, 5),
         read(0x1fe0_0100, 2),
@@ -147,12 +143,12 @@ fn try_unusable(rt: &HostRuntime) -> anyhow::Result<()> {
     show::calls(rt, &mut Bank::new(odd, &mut memory), &[write(4, 4, 1)])?;
     show::calls(
         rt,
-        &mut Shift::new(span(zero, 6), Ports::new(zero)),
+        &mut Shift::new(Span::new(zero, 6), Ports::new(zero)),
         &[read(0, 4)],
     )?;
     show::calls(
         rt,
-        &mut Lock::new(span(zero, 6), Ports::new(zero)),
+        &mut Lock::new(Span::new(zero, 6), Ports::new(zero)),
         &[read(0, 4)],
     )?;
     let mut split = Split::new(odd, Ports::new(zero), Ports::new(zero));

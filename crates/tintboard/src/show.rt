@@ -11,8 +11,7 @@ fn made(rt: &HostRuntime, checked: Result<(), BoardRefusal>) -> io::Result<()> {
 }
 
 pub(crate) fn range(rt: &HostRuntime, span: Span) -> io::Result<()> {
-    let Span { base, length } = span;
-    print!(rt; "range {base} 0x{length:X}: ")?;
+    print!(rt; "range {span}: ")?;
     made(rt, span.check())
 }
 

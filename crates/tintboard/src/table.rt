@@ -4,7 +4,7 @@ ghost use Rattle.calls.specs.Calls.{memory_through};
 ghost use Rattle.tintboard.specs.Table.{colorant_access, shots_access, row_calls};
 
 use crate::show;
-use bus::{Access, Bus, PhysAddr, Refusal};
+use bus::{Access, Bus, PhysAddr, Refusal, Span};
 use calls::{Call, write_verified};
 use std::io;
 
@@ -16,9 +16,6 @@ pub(crate) struct Tint {
 }
 
 const ROW_BYTES: usize = 4;
-
-// All rows.
-pub(crate) const BYTES: u32 = 16;
 
 const ROWS: [Tint; 4] = [
     Tint {
@@ -39,16 +36,21 @@ const ROWS: [Tint; 4] = [
     },
 ];
 
-fn colorant_of(row: PhysAddr) -> Access
-    ensures { result ≡ colorant_access row.0 }
-{
-    Access::new(row, 1)
+// Where the table lies, from `at` on.
+pub(crate) fn span(at: PhysAddr) -> Span {
+    Span::new(at, (ROWS.len() * ROW_BYTES) as u64)
 }
 
-fn shots_of(row: PhysAddr) -> Access
-    ensures { result ≡ shots_access row.0 }
+fn colorant_access(place: PhysAddr) -> Access
+    ensures { result ≡ colorant_access place.0 }
 {
-    Access::new(row.wrapping_add(2), 2)
+    Access::new(place, 1)
+}
+
+fn shots_access(place: PhysAddr) -> Access
+    ensures { result ≡ shots_access place.0 }
+{
+    Access::new(place.wrapping_add(2), 2)
 }
 
 // Writes a row, and gives the row that the bus then holds: the same. Where the second write is refused, the first is done.
@@ -56,8 +58,8 @@ fn store<B: Bus>(board: &mut B, at: PhysAddr, row: Tint) -> Result<Tint, Refusal
     ensures row { IfOk result (λ stored. stored ≡ row) }
     ensures after { OnOk result (B.byte board.new ≡ memory_through (B.byte board.old) (row_calls at.0 row)) }
 {
-    let colorant = write_verified(board, colorant_of(at), u32::from(row.colorant))?;
-    let shots = write_verified(board, shots_of(at), u32::from(row.shots))?;
+    let colorant = write_verified(board, colorant_access(at), u32::from(row.colorant))?;
+    let shots = write_verified(board, shots_access(at), u32::from(row.shots))?;
     Ok(Tint {
         colorant: colorant as u8,
         shots: shots as u16,
@@ -67,7 +69,7 @@ fn store<B: Bus>(board: &mut B, at: PhysAddr, row: Tint) -> Result<Tint, Refusal
 // Loads the table from `at` on up to the first refusal, and prints each write that was read back.
 pub(crate) fn load<B: Bus>(rt: &HostRuntime, board: &mut B, at: PhysAddr) -> anyhow::Result<()> {
     println!(rt; "tint table")?;
-    for (row, offset) in ROWS.into_iter().zip((0..BYTES).step_by(ROW_BYTES)) {
+    for (row, offset) in ROWS.into_iter().zip((0u32..).step_by(ROW_BYTES)) {
         let place = at.wrapping_add(offset);
         match store(board, place, row) {
             Ok(stored) => show_stored(rt, place, stored)?,
@@ -81,15 +83,24 @@ pub(crate) fn load<B: Bus>(rt: &HostRuntime, board: &mut B, at: PhysAddr) -> any
 }
 
 fn show_stored(rt: &HostRuntime, place: PhysAddr, row: Tint) -> io::Result<()> {
-    let colorant = colorant_of(place);
-    let shots = shots_of(place);
-    let Tint {
-        colorant: number,
-        shots: count,
-    } = row;
-    println!(rt; "write {colorant} 0x{number:X}: done and read back")?;
-    println!(rt; "write {shots} 0x{count:X}: done and read back")
+    let writes = [
+        Call::Write {
+            access: colorant_access(place),
+            value: u32::from(row.colorant),
+        },
+        Call::Write {
+            access: shots_access(place),
+            value: u32::from(row.shots),
+        },
+    ];
+    for write in writes {
+        println!(rt; "{write}: done and read back")?;
+    }
+    Ok(())
 }
+
+// A row's bytes in every width: how far behind its first they begin, and how many they are.
+const FIELDS: [(u32, u32); 7] = [(0, 4), (0, 2), (2, 2), (0, 1), (1, 1), (2, 1), (3, 1)];
 
 // Reads every row in every width.
 pub(crate) fn read_back<B: Bus>(
@@ -98,12 +109,11 @@ pub(crate) fn read_back<B: Bus>(
     at: PhysAddr,
 ) -> anyhow::Result<()> {
     println!(rt; "read back")?;
-    for offset in (0..BYTES).step_by(ROW_BYTES) {
+    for offset in (0u32..).step_by(ROW_BYTES).take(ROWS.len()) {
         let place = at.wrapping_add(offset);
-        let list = [(0, 4), (0, 2), (2, 2), (0, 1), (1, 1), (2, 1), (3, 1)].map(|(
-            byte,
-            width,
-        )| Call::Read(Access::new(place.wrapping_add(byte), width)));
+        let list = FIELDS.map(|(behind, width)| -> Call {
+            Call::Read(Access::new(place.wrapping_add(behind), width))
+        });
         show::calls(rt, board, &list)?;
     }
     Ok(())

@@ -37,7 +37,7 @@ int_div_fits (negsuc a) (negsuc zero) fits no_overflow =
     omega (arith, ints)
 int_div_fits (negsuc a) (negsuc (suc b)) fits no_overflow = omega (arith, ints, div-lt_self {n = suc a} {k = suc (suc b)})
 
-signed_of_low_word : (z : ℤ) → FitsSigned w32 z → signed (low_word z) ≡ z
+pub signed_of_low_word : (z : ℤ) → FitsSigned w32 z → signed (low_word z) ≡ z
 signed_of_low_word (pos n) fits = grind (arith, ints, nat_tests)
 signed_of_low_word (negsuc n) fits = grind (arith, ints, nat_tests)
 

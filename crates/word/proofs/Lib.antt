@@ -1,2 +1,2 @@
-mod Dividing
+pub mod Dividing
 mod Extending
