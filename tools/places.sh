@@ -29,9 +29,8 @@ count 3-loops '^ *(for|while|loop)\b'
 count 3-counters '^ *[a-z]+ = (number|PhysAddr)'
 count 3-bytes '[*/%] 0x1(00|_0000|00_0000)\b'
 # 4: conversions and printing
-count 4-as ' as (u8|u16|u32|u64|i64)\b'
+count 4-as ' as (u8|u16|u32|u64|i64|usize)\b'
 count 4-digits 'hex_digit\(|digit_of\('
-count 4-fields '^ *let [a-z]+ = [a-z]+\.(0|number\(\));'
 count 4-prints 'print(ln)?!\(rt;'
 # 5: parameters that travel together, facts that are asked
 count 5-access 'at: PhysAddr(, width|,$)|at, width'
@@ -40,7 +39,7 @@ count 5-requires 'requires'
 # 6: buffers, lists
 count 6-buffers '\[[a-z0-9]+; [A-Za-z0-9_]+\]|Vec<|length: u(32|64|size)'
 # 7: a match on which operation to do, closures, tables of functions
-count 7-switches 'match op \{'
+count 7-switches 'match (op|half) \{'
 count 7-functions 'dyn |impl Fn|fn\('
 # 8: proof files and their lines
 if [ -z "$show" ]; then

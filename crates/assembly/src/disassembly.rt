@@ -18,10 +18,7 @@ impl fmt::Display for Disassembly {
 
     fn fmt<W: fmt::Write>(&self, f: &mut fmt::Formatter<W>) -> fmt::Result {
         match self.instruction {
-            Some(instruction) => {
-                let line = Line::from(instruction);
-                write!(f, "{line}")
-            }
+            Some(instruction) => write!(f, "{}", Line::from(instruction)),
             None => write!(f, "undefined"),
         }
     }

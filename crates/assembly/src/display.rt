@@ -11,16 +11,10 @@ impl fmt::Display for Operand {
     #[tactic(auto, using(crate::proofs::Digits::hex_four))]
     fn fmt<W: fmt::Write>(&self, f: &mut fmt::Formatter<W>) -> fmt::Result {
         match *self {
-            Operand::Gpr(reg) => {
-                let index = reg.index();
-                write!(f, "r{index}")
-            }
+            Operand::Gpr(reg) => write!(f, "r{}", reg.index()),
             Operand::Signed(value) => write!(f, "{value}"),
             Operand::Unsigned(value) => write!(f, "{value}"),
-            Operand::Csr(number) => {
-                let value = number.value();
-                write!(f, "0x{value:04X}")
-            }
+            Operand::Csr(number) => write!(f, "0x{:04X}", number.value()),
         }
     }
 }
@@ -42,8 +36,6 @@ impl fmt::Display for Line {
     ghost output = { λ l. Some (l.mnemonic.now ++ operands_text l.operands) };
 
     fn fmt<W: fmt::Write>(&self, f: &mut fmt::Formatter<W>) -> fmt::Result {
-        let mnemonic = self.mnemonic;
-        let operands = self.operands;
-        write!(f, "{mnemonic}{operands}")
+        write!(f, "{}{}", self.mnemonic, self.operands)
     }
 }

@@ -40,7 +40,7 @@ impl Bus for Latch {
         let width = access.check()?;
         match (access.at.0, width) {
             (0, Width::Byte) => {
-                self.setting = (value % 0x100) as u8;
+                [self.setting, ..] = value.to_le_bytes();
                 Ok(())
             }
             (1, Width::Byte) | (0, Width::Half) => Err(Refusal::Fixed(PhysAddr(1))),

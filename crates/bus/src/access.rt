@@ -91,7 +91,6 @@ impl fmt::Display for Access {
     ghost output = { λ access. Some (access_text access) };
 
     fn fmt<W: fmt::Write>(&self, f: &mut fmt::Formatter<W>) -> fmt::Result {
-        let Access { at, width } = *self;
-        write!(f, "{at} {width}")
+        write!(f, "{} {}", self.at, self.width)
     }
 }

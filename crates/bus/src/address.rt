@@ -21,7 +21,6 @@ impl fmt::Display for PhysAddr {
     ghost output = { λ at. Some (address_text at) };
 
     fn fmt<W: fmt::Write>(&self, f: &mut fmt::Formatter<W>) -> fmt::Result {
-        let number = self.0;
-        write!(f, "0x{number:08X}")
+        write!(f, "0x{:08X}", self.0)
     }
 }

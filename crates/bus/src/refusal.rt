@@ -74,8 +74,7 @@ impl fmt::Display for BoardRefusal {
     ghost output = { λ e. Some (board_refusal_text e) };
 
     fn fmt<W: fmt::Write>(&self, f: &mut fmt::Formatter<W>) -> fmt::Result {
-        let number = self.number();
-        write!(f, "refused {number}")
+        write!(f, "refused {}", self.number())
     }
 }
 
