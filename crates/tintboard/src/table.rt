@@ -100,7 +100,7 @@ fn show_stored(rt: &HostRuntime, place: PhysAddr, row: Tint) -> io::Result<()> {
 }
 
 // A row's bytes in every width: how far behind its first they begin, and how many they are.
-const FIELDS: [(u32, u32); 7] = [(0, 4), (0, 2), (2, 2), (0, 1), (1, 1), (2, 1), (3, 1)];
+const PIECES: [(u32, u32); 7] = [(0, 4), (0, 2), (2, 2), (0, 1), (1, 1), (2, 1), (3, 1)];
 
 // Reads every row in every width.
 pub(crate) fn read_back<B: Bus>(
@@ -111,7 +111,7 @@ pub(crate) fn read_back<B: Bus>(
     println!(rt; "read back")?;
     for offset in (0u32..).step_by(ROW_BYTES).take(ROWS.len()) {
         let place = at.wrapping_add(offset);
-        let list = FIELDS.map(|(behind, width)| -> Call {
+        let list = PIECES.map(|(behind, width)| -> Call {
             Call::Read(Access::new(place.wrapping_add(behind), width))
         });
         show::calls(rt, board, &list)?;
