@@ -1,3 +1,4 @@
 pub mod Views
 pub mod Shifting
+pub mod Splitting
 pub mod Locking

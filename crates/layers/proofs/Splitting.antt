@@ -1,0 +1,43 @@
+-- A write to a split is one to the side that it begins on.
+use Rattle.std.proofs.Common.{◌≡◌, ℕ, ◌%◌, ◌<◌, ◌≤◌, true, false, cond, eqb, ltb, Ok, Err, Result, sym, ap, arith}
+use Rattle.std.proofs.lemmas.Bool.Decides.{nat_tests}
+use Rattle.std.proofs.lemmas.Bool.{cond-true, cond-false, eq-eqb, and_from, not_from_false}
+use Rattle.bus.specs.declared.refusal.Refusal.{Refusal}
+use Rattle.bus.specs.declared.refusal.BoardRefusal.TheVariants.{Uneven}
+use Rattle.bus.specs.Memory.{Memory, aligned, within}
+use Rattle.bus.specs.Board.{border_check, is_accepted, where_accepted}
+use Rattle.bus.specs.Layout.{hidden_cells}
+use Rattle.bus.proofs.Accesses.{Written, written_same}
+use Rattle.bus.proofs.Ruling.{hidden_kept}
+use Rattle.layers.specs.Layers.{sides, split_cells, shown_low, shown_high}
+use Rattle.layers.proofs.Views.{written_over}
+
+module _ (c : ℕ) (even : c % 4 ≡ 0) where
+  split_is : (lo hi : Memory) → split_cells c lo hi ≡ sides c lo hi
+  split_is lo hi = ap (λ r. where_accepted r (sides c lo hi)) (cond-true (eqb (c % 4) 0) (Ok tt) (Err Uneven) (eq-eqb (c % 4) 0 even))
+
+  accepts : is_accepted (border_check c) ≡ true
+  accepts = ap is_accepted (cond-true (eqb (c % 4) 0) (Ok tt) (Err Uneven) (eq-eqb (c % 4) 0 even))
+
+  stays_below : (a w x : ℕ) → a < c → aligned a w ≡ true → within a w x ≡ true → ltb x c ≡ true
+  stays_below a w x l fit e = grind (arith, nat_tests)
+
+  stays_above : (a w x : ℕ) → c ≤ a → within a w x ≡ true → ltb x c ≡ false
+  stays_above a w x l e = grind (arith, nat_tests)
+
+  module _ (lo hi : Memory) (a w v : ℕ) (r : Result (Unit {0}) Refusal) (n : Memory) where
+    pub low_write : a < c → Written lo a w v r n → Written (split_cells c lo hi) a w v r (split_cells c n hi)
+    low_write below h =
+        written_same (sides c lo hi) (split_cells c lo hi) (sides c n hi) (split_cells c n hi) a w v r (sym (split_is lo hi)) (split_is n hi)
+        (written_over (λ x d. cond (ltb x c) d (hi x)) lo a w v (λ fit x e d. cond-true _ _ _ (stays_below a w x below fit e)) r n h)
+
+    pub high_write : c ≤ a → Written hi a w v r n → Written (split_cells c lo hi) a w v r (split_cells c lo n)
+    high_write above h =
+        written_same (sides c lo hi) (split_cells c lo hi) (sides c lo n) (split_cells c lo n) a w v r (sym (split_is lo hi)) (split_is lo n)
+        (written_over (λ x d. cond (ltb x c) (lo x) d) hi a w v (λ fit x e d. cond-false _ _ _ (stays_above a w x above e)) r n h)
+
+    pub low_hidden : a < c → Written lo a w v r n → hidden_cells (shown_low c) n ≡ hidden_cells (shown_low c) lo
+    low_hidden below h = hidden_kept (shown_low c) lo a w v (λ fit x e. and_from _ _ accepts (stays_below a w x below fit e)) r n h
+
+    pub high_hidden : c ≤ a → Written hi a w v r n → hidden_cells (shown_high c) n ≡ hidden_cells (shown_high c) hi
+    high_hidden above h = hidden_kept (shown_high c) hi a w v (λ fit x e. and_from _ _ accepts (not_from_false _ (stays_above a w x above e))) r n h
