@@ -1,0 +1,31 @@
+// A program's address, and the number of a frame of physical memory. With `PhysAddr` they are three types: a call that is due one
+// takes neither of the others, and only translation makes a physical address of a virtual one.
+ghost use Rattle.std.specs.Prelude.{◌≡◌, ◌/◌, ◌%◌, ◌^◌};
+
+use crate::bits::Bits;
+
+#[derive(Clone, Copy, PartialEq, Eq, Debug)]
+pub struct VirtAddr(pub u32);
+
+// The upper 20 bits of a physical address.
+#[derive(Clone, Copy, PartialEq, Eq, Debug)]
+pub struct Frame(pub Bits<20>);
+
+// The number of a pair of small pages: a virtual address without its lowest 13 bits.
+pub type Vppn = Bits<19>;
+
+impl VirtAddr {
+    pub fn vppn(self) -> Vppn
+        ensures { result ≡ self.0 / 2 ^ 13 }
+    {
+        Bits::of_low_bits(self.0 >> 13)
+    }
+}
+
+impl Frame {
+    pub fn of_low_bits(number: u32) -> Frame
+        ensures { result.0 ≡ number % 2 ^ 20 }
+    {
+        Frame(Bits::of_low_bits(number))
+    }
+}
