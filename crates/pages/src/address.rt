@@ -2,7 +2,7 @@
 // takes neither of the others, and only translation makes a physical address of a virtual one.
 ghost use Rattle.std.specs.Prelude.{◌≡◌, ◌/◌, ◌%◌, ◌^◌};
 
-use crate::bits::Bits;
+use crate::bits::{Bits, Vppn};
 
 #[derive(Clone, Copy, PartialEq, Eq, Debug)]
 pub struct VirtAddr(pub u32);
@@ -10,9 +10,6 @@ pub struct VirtAddr(pub u32);
 // The upper 20 bits of a physical address.
 #[derive(Clone, Copy, PartialEq, Eq, Debug)]
 pub struct Frame(pub Bits<20>);
-
-// The number of a pair of small pages: a virtual address without its lowest 13 bits.
-pub type Vppn = Bits<19>;
 
 impl VirtAddr {
     pub fn vppn(self) -> Vppn

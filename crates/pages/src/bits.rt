@@ -8,6 +8,18 @@ pub struct Bits<const N: u32> {
     value: u32,
 }
 
+// The number by which a program's address space is told from others.
+pub type Asid = Bits<10>;
+
+// The number of a pair of small pages: a virtual address without its lowest 13 bits.
+pub type Vppn = Bits<19>;
+
+// The number of a TLB entry.
+pub type Index = Bits<4>;
+
+// How memory is accessed: 0 strongly ordered and uncached, 1 coherent and cached, 2 and 3 reserved.
+pub type AccessType = Bits<2>;
+
 // A clause and a definition see the number.
 impl<const N: u32> Model for Bits<N> {
     ghost use Rattle.std.specs.Prelude.{ℕ, ◌^◌, ◌<◌};
