@@ -1,0 +1,24 @@
+-- ESTAT.IS and ECFG by their fields, and when an interrupt is due.
+use Rattle.std.specs.Prelude.{ℕ, ◌+◌, ◌*◌, ◌^◌, Bool, nat_lt, bit_and}
+use Rattle.csr.specs.declared.interrupts.Pending.{Pending}
+use Rattle.csr.specs.declared.interrupts.Enabled.{Enabled}
+use Rattle.csr.specs.declared.interrupts.Interrupts.{Interrupts}
+use Rattle.csr.specs.Words.{bit, flag, field}
+
+-- IS: software interrupts 1:0, hardware lines 9:2, timer 11
+abbrev pub is : Pending → ℕ
+is p = p.swi + p.hwi * 2 ^ 2 + bit p.ti * 2 ^ 11
+
+abbrev pub with_swi : Pending → ℕ → Pending
+with_swi p word = record p { swi = field word 0 2 }
+
+-- LIE: 9:0 and 12:11
+abbrev pub lie : Enabled → ℕ
+lie e = e.swi + e.hwi * 2 ^ 2 + bit e.ti * 2 ^ 11 + bit e.ipi * 2 ^ 12
+
+abbrev pub lie_of : ℕ → Enabled
+lie_of word = record { swi = field word 0 2; hwi = field word 2 8; ti = flag word 11; ipi = flag word 12 }
+
+-- an interrupt is due if IS and LIE share a 1
+abbrev pub due : Interrupts → Bool
+due i = nat_lt 0 (bit_and (is i.pending) (lie i.enabled))

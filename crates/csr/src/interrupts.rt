@@ -1,0 +1,74 @@
+// Interrupts: which are pending (ESTAT.IS), and which are enabled one by one (ECFG.LIE).
+ghost use Rattle.std.specs.Prelude.{◌≡◌};
+ghost use Rattle.csr.specs.Interrupts.{is, lie, with_swi, lie_of, due};
+
+use pages::Bits;
+
+// Software interrupts, hardware lines, the timer's. Nothing brings about an interrupt between processors, there being one.
+#[derive(Clone, Copy, PartialEq, Eq, Debug)]
+pub struct Pending {
+    pub swi: Bits<2>,
+    pub hwi: u8,
+    pub ti: bool,
+}
+
+#[derive(Clone, Copy, PartialEq, Eq, Debug)]
+pub struct Enabled {
+    pub swi: Bits<2>,
+    pub hwi: u8,
+    pub ti: bool,
+    pub ipi: bool,
+}
+
+#[derive(Clone, Copy, PartialEq, Eq, Debug)]
+pub struct Interrupts {
+    pub pending: Pending,
+    pub enabled: Enabled,
+}
+
+impl Pending {
+    pub fn is(&self) -> u32
+        ensures { result ≡ is self.now }
+    {
+        self.swi.value() | u32::from(self.hwi) << 2 | u32::from(self.ti) << 11
+    }
+
+    // As ESTAT is written: the software interrupts alone.
+    pub fn set_swi(&mut self, word: u32)
+        ensures { self.new ≡ with_swi self.old word }
+    {
+        self.swi = Bits::of_low_bits(word);
+    }
+}
+
+impl Enabled {
+    pub fn lie(&self) -> u32
+        ensures { result ≡ lie self.now }
+    {
+        self.swi.value()
+            | u32::from(self.hwi) << 2
+            | u32::from(self.ti) << 11
+            | u32::from(self.ipi) << 12
+    }
+
+    pub fn of_lie(word: u32) -> Enabled
+        ensures { result ≡ lie_of word }
+    {
+        Enabled {
+            swi: Bits::of_low_bits(word),
+            hwi: ((word >> 2) % 0x100) as u8,
+            ti: (word >> 11) % 2 == 1,
+            ipi: (word >> 12) % 2 == 1,
+        }
+    }
+}
+
+impl Interrupts {
+    pub fn is_due(&self) -> bool
+        ensures { result ≡ due self.now }
+    {
+        let swi = self.pending.swi.value() & self.enabled.swi.value();
+        let hwi = self.pending.hwi & self.enabled.hwi;
+        swi != 0 || hwi != 0 || (self.pending.ti && self.enabled.ti)
+    }
+}

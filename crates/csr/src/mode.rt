@@ -1,0 +1,103 @@
+// The mode in which the processor runs: CRMD, and ASID.
+ghost use Rattle.std.specs.Prelude.{◌≡◌};
+ghost use Rattle.csr.specs.Mode.{da_pg, da_pg_written, crmd, with_crmd, asid, with_asid, handler_mode, returned_mode};
+
+use crate::exception::Cause;
+use crate::previous::PreviousMode;
+use pages::{AccessType, Asid, Bits, Privilege};
+
+// CRMD's DA and PG: 1 and 0, or 0 and 1.
+#[derive(Clone, Copy, PartialEq, Eq, Debug)]
+pub enum Translation {
+    Direct,
+    Mapped,
+}
+
+#[derive(Clone, Copy, PartialEq, Eq, Debug)]
+pub struct Mode {
+    pub plv: Privilege,
+    pub ie: bool,
+    pub translation: Translation,
+    pub datf: AccessType,
+    pub datm: AccessType,
+    pub asid: Asid,
+}
+
+impl Translation {
+    // PG and DA as a number of two bits.
+    pub fn number(self) -> u32
+        ensures { result ≡ da_pg self }
+    {
+        match self {
+            Translation::Direct => 1,
+            Translation::Mapped => 2,
+        }
+    }
+
+    // What DA and PG hold after that number was written to them.
+    pub fn written(self, number: u32) -> Translation
+        ensures { result ≡ da_pg_written self number }
+    {
+        match number {
+            1 => Translation::Direct,
+            2 => Translation::Mapped,
+            _ => self,
+        }
+    }
+}
+
+impl Mode {
+    pub fn crmd(&self) -> u32
+        ensures { result ≡ crmd self.now }
+    {
+        self.plv.number()
+            | u32::from(self.ie) << 2
+            | self.translation.number() << 3
+            | self.datf.value() << 5
+            | self.datm.value() << 7
+    }
+
+    pub fn set_crmd(&mut self, word: u32)
+        ensures { self.new ≡ with_crmd self.old word }
+    {
+        self.plv = self.plv.written(word % 4);
+        self.ie = (word >> 2) % 2 == 1;
+        self.translation = self.translation.written((word >> 3) % 4);
+        self.datf = Bits::of_low_bits(word >> 5);
+        self.datm = Bits::of_low_bits(word >> 7);
+    }
+
+    pub fn asid(&self) -> u32
+        ensures { result ≡ asid self.now }
+    {
+        self.asid.value() | 10 << 16
+    }
+
+    pub fn set_asid(&mut self, word: u32)
+        ensures { self.new ≡ with_asid self.old word }
+    {
+        self.asid = Bits::of_low_bits(word);
+    }
+
+    // As an exception's handler begins.
+    pub fn enter(&mut self, cause: Cause)
+        ensures { self.new ≡ handler_mode self.old cause }
+    {
+        self.plv = Privilege::Plv0;
+        self.ie = false;
+        if cause == Cause::Tlbr {
+            self.translation = Translation::Direct;
+        }
+    }
+
+    // As ERTN leaves the handler of an exception of that cause.
+    pub fn leave(&mut self, previous: PreviousMode, cause: Cause)
+        ensures { self.new ≡ returned_mode self.old previous cause }
+    {
+        self.plv = previous.pplv;
+        self.ie = previous.pie;
+        if cause == Cause::Tlbr {
+            self.translation = Translation::Mapped;
+        }
+    }
+}
