@@ -1,5 +1,5 @@
 -- ESTAT.IS and ECFG by their fields, and when an interrupt is due.
-use Rattle.std.specs.Prelude.{ℕ, ◌+◌, ◌*◌, ◌^◌, Bool, nat_lt, bit_and}
+use Rattle.std.specs.Prelude.{ℕ, ◌+◌, ◌*◌, ◌^◌, ◌<◌, Bool, nat_lt, bit_and}
 use Rattle.csr.specs.declared.interrupts.Pending.{Pending}
 use Rattle.csr.specs.declared.interrupts.Enabled.{Enabled}
 use Rattle.csr.specs.declared.interrupts.Interrupts.{Interrupts}
@@ -8,6 +8,10 @@ use Rattle.csr.specs.Words.{bit, flag, field}
 -- IS: software interrupts 1:0, hardware lines 9:2, timer 11
 abbrev pub is : Pending → ℕ
 is p = p.swi + p.hwi * 2 ^ 2 + bit p.ti * 2 ^ 11
+
+-- the two numbers of it have 2 and 8 bits
+abbrev pub PendingFits : Pending → Type 0
+PendingFits p = (p.swi < 2 ^ 2) × (p.hwi < 2 ^ 8)
 
 abbrev pub with_swi : Pending → ℕ → Pending
 with_swi p word = record p { swi = field word 0 2 }

@@ -1,5 +1,5 @@
 // Exceptions by the manual's names.
-ghost use Rattle.std.specs.Prelude.{◌≡◌};
+ghost use Rattle.std.specs.Prelude.{◌≡◌, ◌^◌, ◌<◌};
 ghost use Rattle.csr.specs.Exceptions.{ecode, esubcode, fault_cause, cause_of, bad_address, faulting_page};
 
 use pages::{VirtAddr, Vppn};
@@ -51,7 +51,8 @@ pub enum Exception {
 
 impl Cause {
     pub fn ecode(self) -> u32
-        ensures { result ≡ ecode self }
+        ensures value { result ≡ ecode self }
+        ensures fits { result < 2 ^ 6 }
     {
         match self {
             Cause::Int => 0x0,

@@ -1,6 +1,6 @@
 // Interrupts: which are pending (ESTAT.IS), and which are enabled one by one (ECFG.LIE).
 ghost use Rattle.std.specs.Prelude.{◌≡◌};
-ghost use Rattle.csr.specs.Interrupts.{is, lie, with_swi, lie_of, due};
+ghost use Rattle.csr.specs.Interrupts.{is, PendingFits, lie, with_swi, lie_of, due};
 
 use pages::Bits;
 
@@ -28,7 +28,8 @@ pub struct Interrupts {
 
 impl Pending {
     pub fn is(&self) -> u32
-        ensures { result ≡ is self.now }
+        ensures value { result ≡ is self.now }
+        ensures fits { PendingFits self.now }
     {
         self.swi.value() | u32::from(self.hwi) << 2 | u32::from(self.ti) << 11
     }

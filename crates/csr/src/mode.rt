@@ -1,5 +1,5 @@
 // The mode in which the processor runs: CRMD, and ASID.
-ghost use Rattle.std.specs.Prelude.{◌≡◌};
+ghost use Rattle.std.specs.Prelude.{◌≡◌, ◌^◌, ◌<◌};
 ghost use Rattle.csr.specs.Mode.{da_pg, da_pg_written, crmd, with_crmd, asid, with_asid, handler_mode, returned_mode};
 
 use crate::exception::Cause;
@@ -68,7 +68,8 @@ impl Mode {
     }
 
     pub fn asid(&self) -> u32
-        ensures { result ≡ asid self.now }
+        ensures value { result ≡ asid self.now }
+        ensures fits { self.now.asid < 2 ^ 10 }
     {
         self.asid.value() | 10 << 16
     }

@@ -1,5 +1,5 @@
 // The registers by which programs read and write TLB entries: TLBIDX, TLBEHI, TLBELO0 and TLBELO1.
-ghost use Rattle.std.specs.Prelude.{◌≡◌};
+ghost use Rattle.std.specs.Prelude.{◌≡◌, ◌^◌, ◌<◌};
 ghost use Rattle.csr.specs.TlbRegisters.{tlbelo, tlbelo_of, tlbidx, with_tlbidx, tlbehi, with_tlbehi};
 
 use pages::{Bits, Frame, Half, Index, PageSize, Vppn};
@@ -51,7 +51,8 @@ impl TlbLow {
 
 impl TlbRegisters {
     pub fn tlbidx(&self) -> u32
-        ensures { result ≡ tlbidx self.now }
+        ensures value { result ≡ tlbidx self.now }
+        ensures fits { self.now.index < 2 ^ 4 }
     {
         self.index.value() | self.ps.number() << 24 | u32::from(self.ne) << 31
     }

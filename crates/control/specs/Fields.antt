@@ -1,0 +1,114 @@
+-- The fields of each control register, and how each takes what is written to it: the law of reading back.
+use Rattle.std.specs.Prelude.{ℕ, ◌+◌, ◌-◌, ◌*◌, ◌^◌, ◌<◌, List, [], ◌∷◌, Bool, cond, ◌==◌, ◌||◌}
+use Rattle.csr.specs.Words.{flag, field}
+use Rattle.csr.specs.Exceptions.{ecode}
+use Rattle.csr.specs.Interrupts.{PendingFits}
+use Rattle.control.specs.declared.csr.Csr.{Csr}
+use Rattle.control.specs.declared.csr.Csr.TheVariants.{Crmd, Prmd, Euen, Ecfg, Estat, Era, Badv, Eentry, Tlbidx, Tlbehi, Tlbelo0, Tlbelo1, Asid, Pgdl, Pgdh, Pgd, Cpuid, Save0, Save1, Save2, Save3, Tid, Tcfg, Tval, Ticlr, Llbctl, Tlbrentry, Ctag, Dmw0, Dmw1}
+use Rattle.control.specs.declared.registers.Registers.{Registers}
+
+-- a field by its highest and its lowest bit, with what it holds after a write, of what it held and what is written there
+abbrev pub Row : Type 0
+Row = ℕ × ℕ × (ℕ → ℕ → ℕ)
+
+abbrev pub any : ℕ → ℕ → ℕ
+any old new = new
+
+abbrev pub read_only : ℕ → ℕ → ℕ
+read_only old new = old
+
+abbrev pub if_legal : (ℕ → Bool) → ℕ → ℕ → ℕ
+if_legal legal old new = cond (legal new) new old
+
+abbrev pub one_of : ℕ → ℕ → ℕ → Bool
+one_of a b new = (new == a) || (new == b)
+
+-- PLV0 and PLV3
+abbrev pub privilege : ℕ → ℕ → ℕ
+privilege = if_legal (one_of 0 3)
+
+-- DA and PG, which differ
+abbrev pub mode_bits : ℕ → ℕ → ℕ
+mode_bits = if_legal (one_of 1 2)
+
+abbrev pub page_size : ℕ → ℕ → ℕ
+page_size = if_legal (one_of 12 21)
+
+-- WCLLB and ROLLB: writing 1 to the first makes the second 0
+abbrev pub link_bits : ℕ → ℕ → ℕ
+link_bits old new = cond (flag new 1) 0 old
+
+-- bits of no row read 0
+abbrev pub rows : Csr → List Row
+rows Crmd = (1, 0, privilege) ∷ (2, 2, any) ∷ (4, 3, mode_bits) ∷ (6, 5, any) ∷ (8, 7, any) ∷ []
+rows Prmd = (1, 0, privilege) ∷ (2, 2, any) ∷ []
+rows Euen = []
+rows Ecfg = (9, 0, any) ∷ (12, 11, any) ∷ []
+rows Estat = (1, 0, any) ∷ (9, 2, read_only) ∷ (11, 11, read_only) ∷ (21, 16, read_only) ∷ (30, 22, read_only) ∷ []
+rows Era = (31, 0, any) ∷ []
+rows Badv = (31, 0, any) ∷ []
+rows Eentry = (31, 6, any) ∷ []
+rows Tlbidx = (3, 0, any) ∷ (29, 24, page_size) ∷ (31, 31, any) ∷ []
+rows Tlbehi = (31, 13, any) ∷ []
+rows Tlbelo0 = (0, 0, any) ∷ (1, 1, any) ∷ (3, 2, any) ∷ (5, 4, any) ∷ (6, 6, any) ∷ (27, 8, any) ∷ []
+rows Tlbelo1 = (0, 0, any) ∷ (1, 1, any) ∷ (3, 2, any) ∷ (5, 4, any) ∷ (6, 6, any) ∷ (27, 8, any) ∷ []
+rows Asid = (9, 0, any) ∷ (23, 16, read_only) ∷ []
+rows Pgdl = (31, 12, any) ∷ []
+rows Pgdh = (31, 12, any) ∷ []
+rows Pgd = (31, 0, read_only) ∷ []
+rows Cpuid = []
+rows Save0 = (31, 0, any) ∷ []
+rows Save1 = (31, 0, any) ∷ []
+rows Save2 = (31, 0, any) ∷ []
+rows Save3 = (31, 0, any) ∷ []
+rows Tid = (31, 0, any) ∷ []
+rows Tcfg = (0, 0, any) ∷ (1, 1, any) ∷ (31, 2, any) ∷ []
+rows Tval = (31, 0, read_only) ∷ []
+rows Ticlr = []
+rows Llbctl = (1, 0, link_bits) ∷ []
+rows Tlbrentry = (31, 6, any) ∷ []
+rows Ctag = []
+rows Dmw0 = (0, 0, any) ∷ (3, 3, any) ∷ (5, 4, any) ∷ (27, 25, any) ∷ (31, 29, any) ∷ []
+rows Dmw1 = (0, 0, any) ∷ (3, 3, any) ∷ (5, 4, any) ∷ (27, 25, any) ∷ (31, 29, any) ∷ []
+
+abbrev pub row_after : Row → ℕ → ℕ → ℕ
+row_after row old word =
+    row.2 (field old row.1 (row.0 + 1 - row.1)) (field word row.1 (row.0 + 1 - row.1)) * 2 ^ row.1
+
+-- what a register of those rows reads after a write, of what it read before and what was written
+abbrev pub read_back : List Row → ℕ → ℕ → ℕ
+read_back [] old word = 0
+read_back (row ∷ rest) old word = row_after row old word + read_back rest old word
+
+-- what is read of a register that a write changes in part: its fields have the widths that the rows give them
+abbrev pub ReadFits : Registers → Csr → Type 0
+ReadFits r Crmd = Unit {0}
+ReadFits r Prmd = Unit {0}
+ReadFits r Euen = Unit {0}
+ReadFits r Ecfg = Unit {0}
+ReadFits r Estat = PendingFits r.interrupts.pending × (ecode r.cause < 2 ^ 6)
+ReadFits r Era = Unit {0}
+ReadFits r Badv = Unit {0}
+ReadFits r Eentry = Unit {0}
+ReadFits r Tlbidx = r.tlb.index < 2 ^ 4
+ReadFits r Tlbehi = Unit {0}
+ReadFits r Tlbelo0 = Unit {0}
+ReadFits r Tlbelo1 = Unit {0}
+ReadFits r Asid = r.mode.asid < 2 ^ 10
+ReadFits r Pgdl = Unit {0}
+ReadFits r Pgdh = Unit {0}
+ReadFits r Pgd = Unit {0}
+ReadFits r Cpuid = Unit {0}
+ReadFits r Save0 = Unit {0}
+ReadFits r Save1 = Unit {0}
+ReadFits r Save2 = Unit {0}
+ReadFits r Save3 = Unit {0}
+ReadFits r Tid = Unit {0}
+ReadFits r Tcfg = Unit {0}
+ReadFits r Tval = Unit {0}
+ReadFits r Ticlr = Unit {0}
+ReadFits r Llbctl = Unit {0}
+ReadFits r Tlbrentry = Unit {0}
+ReadFits r Ctag = Unit {0}
+ReadFits r Dmw0 = Unit {0}
+ReadFits r Dmw1 = Unit {0}

@@ -1,0 +1,5 @@
+pub mod Numbers
+pub mod Registers
+pub mod Fields
+pub mod Instructions
+pub mod Exceptions

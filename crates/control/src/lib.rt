@@ -1,0 +1,11 @@
+//! The control registers by number, exceptions and returns, interrupts and the timer, and what TLB instructions do to the registers.
+#![tactic(auto)]
+
+pub mod access;
+pub mod csr;
+pub mod exceptions;
+pub mod instructions;
+pub mod registers;
+
+pub use csr::Csr;
+pub use registers::Registers;
