@@ -1,0 +1,2 @@
+mod First
+mod Emptied

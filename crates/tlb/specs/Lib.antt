@@ -1,0 +1,3 @@
+pub mod Entries
+pub mod Searching
+pub mod Invalidating

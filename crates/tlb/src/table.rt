@@ -1,0 +1,92 @@
+// The TLB's entries, and the place where the next one without a place of its own goes.
+ghost use Rattle.std.specs.Prelude.{◌≡◌, length};
+ghost use Rattle.tlb.specs.Searching.{reset, entry, find, find_from, IsFirst, written, filled};
+ghost use Rattle.tlb.specs.Invalidating.{invalidated};
+
+use crate::entry::Entry;
+use crate::invalidation::Invalidation;
+use pages::{Asid, Bits, Index, VirtAddr};
+use std::mem;
+
+// An index has a place for each.
+const ENTRIES: usize = 16;
+
+#[derive(Clone, Copy, PartialEq, Eq, Debug)]
+pub struct Tlb {
+    entries: [Entry; ENTRIES],
+    fill_at: Index,
+}
+
+// The search stands over a slice, since within a loop it is not known how many entries an array behind a reference has.
+fn first(entries: &[Entry], at: VirtAddr, asid: Asid) -> Option<Index>
+    requires { length entries.now ≡ ENTRIES }
+    ensures value { result ≡ find_from 0 entries.now at.0 asid }
+    ensures first { IsFirst entries.now at.0 asid result }
+{
+    for (index, entry) in entries.iter().enumerate() {
+        if entry.fits(at, asid) {
+            return Some(Bits::of_low_bits(index as u32));
+        }
+    }
+    None
+}
+
+impl Tlb {
+    // As reset leaves it.
+    pub fn new() -> Tlb
+        ensures { result ≡ reset }
+    {
+        Tlb {
+            entries: [Entry::empty(); ENTRIES],
+            fill_at: Bits::of_low_bits(0),
+        }
+    }
+
+    // The first entry that maps the address for a program of that ASID.
+    pub fn find(&self, at: VirtAddr, asid: Asid) -> Option<Index>
+        ensures value { result ≡ find self.now at.0 asid }
+        ensures first { IsFirst self.now.entries at.0 asid result }
+    {
+        first(&self.entries, at, asid)
+    }
+
+    pub fn entry(&self, index: Index) -> &Entry
+        ensures { result.now ≡ entry self.now index }
+    {
+        &self.entries[index.value() as usize]
+    }
+
+    // Where the next fill goes.
+    pub fn fill_at(&self) -> Index
+        ensures { result ≡ self.now.fill_at }
+    {
+        self.fill_at
+    }
+
+    pub fn write(&mut self, index: Index, entry: Entry)
+        ensures { self.new ≡ written index entry self.old }
+    {
+        self.entries[index.value() as usize] = entry;
+    }
+
+    // Writes at the fill place, which then goes on by one, from the last to the first.
+    pub fn fill(&mut self, entry: Entry)
+        ensures { self.new ≡ filled entry self.old }
+    {
+        let next = Bits::of_low_bits(self.fill_at.value() + 1);
+        let index = mem::replace(&mut self.fill_at, next);
+        self.write(index, entry);
+    }
+
+    // Empties each entry that is selected.
+    pub fn invalidate(&mut self, which: Invalidation)
+        ensures { self.new ≡ invalidated which self.old }
+    {
+        for i in 0..ENTRIES {
+            let entry = &mut self.entries[i];
+            if which.selects(entry) {
+                entry.exists = false;
+            }
+        }
+    }
+}
