@@ -16,12 +16,13 @@ handler r cause = record { 0 = cond (is_refill cause) r.tlbrentry r.eentry * 2 ^
 
 abbrev pub raised : Registers → Exception → VirtAddr → Registers
 raised r exception pc = record r {
-    previous = record { pplv = r.mode.plv; pie = r.mode.ie };
-    mode = handler_mode r.mode (cause_of exception);
-    cause = cause_of exception;
-    era = pc;
-    badv = unwrap_or (bad_address exception) r.badv;
-    tlb = record r.tlb { vppn = unwrap_or (faulting_page exception) r.tlb.vppn } }
+  previous = record { pplv = r.mode.plv; pie = r.mode.ie };
+  mode = handler_mode r.mode (cause_of exception);
+  cause = cause_of exception;
+  era = pc;
+  badv = unwrap_or (bad_address exception) r.badv;
+  tlb = record r.tlb { vppn = unwrap_or (faulting_page exception) r.tlb.vppn };
+}
 
 -- ERTN
 abbrev pub returned : Registers → Registers

@@ -3,3 +3,5 @@ pub mod Registers
 pub mod Fields
 pub mod Instructions
 pub mod Exceptions
+pub mod TlbInstructions
+pub mod Reset

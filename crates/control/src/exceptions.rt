@@ -3,10 +3,9 @@ ghost use Rattle.std.specs.Prelude.{◌≡◌};
 ghost use Rattle.csr.specs.Exceptions.{cause_of};
 ghost use Rattle.control.specs.Exceptions.{handler, raised, returned, with_levels, interrupted, beaten};
 
+use crate::registers::Registers;
 use csr::{Cause, Exception, PreviousMode};
 use pages::VirtAddr;
-
-use crate::registers::Registers;
 
 impl Registers {
     // EENTRY or TLBRENTRY.

@@ -6,6 +6,8 @@ pub mod csr;
 pub mod exceptions;
 pub mod instructions;
 pub mod registers;
+pub mod reset;
+pub mod tlb_instructions;
 
 pub use csr::Csr;
 pub use registers::Registers;

@@ -1,0 +1,48 @@
+-- The control registers as reset leaves them: DA 1, PS 12, all else 0, and no exception yet, which reads as 0 too.
+use Rattle.std.specs.Prelude.{false}
+use Rattle.pages.specs.declared.page_size.PageSize.TheVariants.{Small}
+use Rattle.pages.specs.declared.privilege.Privilege.TheVariants.{Plv0}
+use Rattle.csr.specs.declared.exception.Cause.TheVariants.{Int}
+use Rattle.csr.specs.declared.interrupts.Interrupts.{Interrupts}
+use Rattle.csr.specs.declared.mode.Mode.{Mode}
+use Rattle.csr.specs.declared.mode.Translation.TheVariants.{Direct}
+use Rattle.csr.specs.declared.timer.Timer.{Timer}
+use Rattle.csr.specs.declared.tlb_registers.TlbRegisters.{TlbRegisters}
+use Rattle.csr.specs.Interrupts.{lie_of}
+use Rattle.csr.specs.TlbRegisters.{tlbelo_of}
+use Rattle.csr.specs.Window.{dmw_of}
+use Rattle.control.specs.declared.registers.Registers.{Registers}
+
+abbrev pub reset_mode : Mode
+reset_mode = record { plv = Plv0; ie = false; translation = Direct; datf = 0; datm = 0; asid = 0 }
+
+abbrev pub reset_interrupts : Interrupts
+reset_interrupts = record { pending = record { swi = 0; hwi = 0; ti = false }; enabled = lie_of 0 }
+
+abbrev pub reset_tlb : TlbRegisters
+reset_tlb = record { index = 0; ps = Small; ne = false; vppn = 0; elo0 = tlbelo_of 0; elo1 = tlbelo_of 0 }
+
+abbrev pub reset_timer : Timer
+reset_timer = record { counter = 0; tid = 0; en = false; periodic = false; init_val = 0; tval = 0 }
+
+abbrev pub reset_registers : Registers
+reset_registers = record {
+  mode = reset_mode;
+  previous = record { pplv = Plv0; pie = false };
+  interrupts = reset_interrupts;
+  cause = Int;
+  era = record { 0 = 0 };
+  badv = record { 0 = 0 };
+  eentry = 0;
+  tlbrentry = 0;
+  tlb = reset_tlb;
+  pgdl = record { 0 = 0 };
+  pgdh = record { 0 = 0 };
+  save0 = 0;
+  save1 = 0;
+  save2 = 0;
+  save3 = 0;
+  timer = reset_timer;
+  windows = record { dmw0 = dmw_of 0; dmw1 = dmw_of 0 };
+  link = false;
+}

@@ -1,0 +1,44 @@
+-- What the TLB's instructions read of the registers and leave in them.
+use Rattle.std.specs.Prelude.{ℕ, ◌*◌, ◌^◌, true, false, cond, not, ◌&&◌, ◌||◌, Option, Some, None}
+use Rattle.tlb.specs.declared.entry.Entry.{Entry}
+use Rattle.tlb.specs.declared.table.Tlb.{Tlb}
+use Rattle.tlb.specs.Searching.{find}
+use Rattle.csr.specs.declared.tlb_registers.TlbRegisters.{TlbRegisters}
+use Rattle.csr.specs.Exceptions.{is_refill}
+use Rattle.control.specs.declared.registers.Registers.{Registers}
+
+-- TLBWR and TLBFILL: E is 1 if NE is 0 or a refill is being handled, G if both G are 1
+abbrev pub entry_written : Registers → Entry
+entry_written r = record {
+  exists = not r.tlb.ne || is_refill r.cause;
+  asid = r.mode.asid;
+  global = r.tlb.elo0.global && r.tlb.elo1.global;
+  page_size = r.tlb.ps;
+  vppn = r.tlb.vppn;
+  even = r.tlb.elo0.half;
+  odd = r.tlb.elo1.half;
+}
+
+-- TLBSRCH: the first entry that fits gives Index and NE 0; if none does, NE is 1 and Index stays
+abbrev pub tlb_found : TlbRegisters → Option ℕ → TlbRegisters
+tlb_found t (Some i) = record t { index = i; ne = false }
+tlb_found t None = record t { ne = true }
+
+abbrev pub searched : Registers → Tlb → Registers
+searched r tlb = record r { tlb = tlb_found r.tlb (find tlb (r.tlb.vppn * 2 ^ 13) r.mode.asid) }
+
+-- TLBRD: an entry that exists gives its pages, their size and NE 0; an empty one sets NE and nothing else
+abbrev pub tlb_read : TlbRegisters → Entry → TlbRegisters
+tlb_read t e = cond e.exists
+    (record {
+      index = t.index;
+      ps = e.page_size;
+      ne = false;
+      vppn = e.vppn;
+      elo0 = record { half = e.even; global = e.global };
+      elo1 = record { half = e.odd; global = e.global };
+    })
+    (record t { ne = true })
+
+abbrev pub entry_read : Registers → Entry → Registers
+entry_read r e = record r { tlb = tlb_read r.tlb e }
