@@ -1,2 +1,3 @@
 mod Exchanging
 mod ReadingBack
+mod Resetting

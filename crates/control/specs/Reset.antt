@@ -1,5 +1,5 @@
 -- The control registers as reset leaves them: DA 1, PS 12, all else 0, and no exception yet, which reads as 0 too.
-use Rattle.std.specs.Prelude.{false}
+use Rattle.std.specs.Prelude.{◌≡◌, ℕ, false}
 use Rattle.pages.specs.declared.page_size.PageSize.TheVariants.{Small}
 use Rattle.pages.specs.declared.privilege.Privilege.TheVariants.{Plv0}
 use Rattle.csr.specs.declared.exception.Cause.TheVariants.{Int}
@@ -11,7 +11,10 @@ use Rattle.csr.specs.declared.tlb_registers.TlbRegisters.{TlbRegisters}
 use Rattle.csr.specs.Interrupts.{lie_of}
 use Rattle.csr.specs.TlbRegisters.{tlbelo_of}
 use Rattle.csr.specs.Window.{dmw_of}
+use Rattle.control.specs.declared.csr.Csr.{Csr}
+use Rattle.control.specs.declared.csr.Csr.TheVariants.{Crmd, Tlbidx, Asid}
 use Rattle.control.specs.declared.registers.Registers.{Registers}
+use Rattle.control.specs.Registers.{read_of}
 
 abbrev pub reset_mode : Mode
 reset_mode = record { plv = Plv0; ie = false; translation = Direct; datf = 0; datm = 0; asid = 0 }
@@ -46,3 +49,13 @@ reset_registers = record {
   windows = record { dmw0 = dmw_of 0; dmw1 = dmw_of 0 };
   link = false;
 }
+
+-- how that reads: DA, a PS of 12, and ASIDBITS
+abbrev pub reset_word : Csr → ℕ
+reset_word Crmd = 0x8
+reset_word Tlbidx = 0x0c000000
+reset_word Asid = 0x000a0000
+reset_word _ = 0
+
+abbrev pub ReadsAsReset : Registers → Type 0
+ReadsAsReset r = (csr : Csr) → read_of r csr ≡ reset_word csr

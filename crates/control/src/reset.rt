@@ -1,6 +1,6 @@
 // The control registers as reset leaves them.
 ghost use Rattle.std.specs.Prelude.{◌≡◌};
-ghost use Rattle.control.specs.Reset.{reset_mode, reset_interrupts, reset_tlb, reset_timer, reset_registers};
+ghost use Rattle.control.specs.Reset.{reset_mode, reset_interrupts, reset_tlb, reset_timer, reset_registers, ReadsAsReset};
 
 use crate::registers::Registers;
 use csr::{
@@ -62,8 +62,10 @@ fn reset_timer() -> Timer
 }
 
 impl Registers {
+    #[tactic(auto, using(crate::proofs::Resetting::reads_as_reset))]
     pub fn reset() -> Registers
-        ensures { result ≡ reset_registers }
+        ensures state { result ≡ reset_registers }
+        ensures words { ReadsAsReset result }
     {
         Registers {
             mode: reset_mode(),
