@@ -7,4 +7,4 @@ use Rattle.control.specs.Instructions.{exchanged}
 
 pub whole_exchanged : (old word : ℕ) → word < 2 ^ 32 → exchanged old word (2 ^ 32 - 1) ≡ word
 whole_exchanged old word fits =
-    rw (and_zero_r, or_zero_l, and_mask word 32) (mod-eq_of_lt fits)
+    rw (and_zero_r, or_zero_l (bit_and word (2 ^ 32 - 1)), and_mask word 32) (mod-eq_of_lt fits)

@@ -1,5 +1,5 @@
 -- What a read of each control register gives, and what a write of it leaves.
-use Rattle.std.specs.Prelude.{ℕ, ◌+◌, ◌*◌, ◌/◌, ◌^◌, false, cond, ◌==◌}
+use Rattle.std.specs.Prelude.{ℕ, ◌+◌, ◌*◌, ◌/◌, ◌^◌, Bool, false, cond, ◌==◌}
 use Rattle.pages.specs.declared.address.Frame.{Frame}
 use Rattle.csr.specs.declared.interrupts.Interrupts.{Interrupts}
 use Rattle.csr.specs.Words.{bit, flag, field}
@@ -17,12 +17,16 @@ use Rattle.control.specs.declared.registers.Registers.{Registers}
 abbrev pub pgd : Registers → Frame
 pgd r = cond (r.badv.0 / 2 ^ 31 == 0) r.pgdl r.pgdh
 
+-- IS 12:0, Ecode 21:16, EsubCode 30:22
+abbrev pub estat : Registers → ℕ
+estat r = is r.interrupts.pending + ecode r.cause * 2 ^ 16 + esubcode r.cause * 2 ^ 22
+
 abbrev pub read_of : Registers → Csr → ℕ
 read_of r Crmd = crmd r.mode
 read_of r Prmd = prmd r.previous
 read_of r Euen = 0
 read_of r Ecfg = lie r.interrupts.enabled
-read_of r Estat = is r.interrupts.pending + ecode r.cause * 2 ^ 16 + esubcode r.cause * 2 ^ 22
+read_of r Estat = estat r
 read_of r Era = r.era.0
 read_of r Badv = r.badv.0
 read_of r Eentry = r.eentry * 2 ^ 6
@@ -49,9 +53,16 @@ read_of r Ctag = 0
 read_of r Dmw0 = dmw r.windows.dmw0
 read_of r Dmw1 = dmw r.windows.dmw1
 
+abbrev pub cleared_timer : Interrupts → Bool → Interrupts
+cleared_timer i clr = record i { pending = record i.pending { ti = cond clr false i.pending.ti } }
+
 -- writing 1 to CLR clears the timer's interrupt
-abbrev pub with_ticlr : Interrupts → ℕ → Interrupts
-with_ticlr i word = record i { pending = record i.pending { ti = cond (flag word 0) false i.pending.ti } }
+abbrev pub with_ticlr : Registers → ℕ → Registers
+with_ticlr r word = record r { interrupts = cleared_timer r.interrupts (flag word 0) }
+
+-- writing 1 to WCLLB clears the link
+abbrev pub with_llbctl : Registers → ℕ → Registers
+with_llbctl r word = record r { link = cond (flag word 1) false r.link }
 
 abbrev pub written : Registers → Csr → ℕ → Registers
 written r Crmd word = record r { mode = with_crmd r.mode word }
@@ -78,9 +89,8 @@ written r Save3 word = record r { save3 = word }
 written r Tid word = record r { timer = record r.timer { tid = word } }
 written r Tcfg word = record r { timer = with_tcfg r.timer word }
 written r Tval word = r
-written r Ticlr word = record r { interrupts = with_ticlr r.interrupts word }
--- writing 1 to WCLLB clears the link
-written r Llbctl word = record r { link = cond (flag word 1) false r.link }
+written r Ticlr word = with_ticlr r word
+written r Llbctl word = with_llbctl r word
 written r Tlbrentry word = record r { tlbrentry = field word 6 26 }
 written r Ctag word = r
 written r Dmw0 word = record r { windows = record r.windows { dmw0 = dmw_of word } }

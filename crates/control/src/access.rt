@@ -1,6 +1,6 @@
 // Reads and writes of the control registers.
 ghost use Rattle.std.specs.Prelude.{◌≡◌};
-ghost use Rattle.control.specs.Registers.{pgd, read_of, written};
+ghost use Rattle.control.specs.Registers.{pgd, estat, with_ticlr, with_llbctl, read_of, written};
 ghost use Rattle.control.specs.Fields.{ReadFits};
 
 use crate::csr::Csr;
@@ -20,6 +20,31 @@ impl Registers {
         }
     }
 
+    fn estat(&self) -> u32
+        ensures value { result ≡ estat self.now }
+        ensures fits { ReadFits self.now Csr.Estat }
+    {
+        self.interrupts.pending.is() | self.cause.ecode() << 16 | self.cause.esubcode() << 22
+    }
+
+    // Writing 1 to CLR clears the timer's interrupt.
+    fn set_ticlr(&mut self, word: u32)
+        ensures { self.new ≡ with_ticlr self.old word }
+    {
+        if word % 2 == 1 {
+            self.interrupts.pending.ti = false;
+        }
+    }
+
+    // Writing 1 to WCLLB clears the link.
+    fn set_llbctl(&mut self, word: u32)
+        ensures { self.new ≡ with_llbctl self.old word }
+    {
+        if (word >> 1) % 2 == 1 {
+            self.link = false;
+        }
+    }
+
     pub fn read(&self, csr: Csr) -> u32
         ensures value { result ≡ read_of self.now csr }
         ensures fits { ReadFits self.now csr }
@@ -28,11 +53,7 @@ impl Registers {
             Csr::Crmd => self.mode.crmd(),
             Csr::Prmd => self.previous.prmd(),
             Csr::Ecfg => self.interrupts.enabled.lie(),
-            Csr::Estat => {
-                self.interrupts.pending.is()
-                    | self.cause.ecode() << 16
-                    | self.cause.esubcode() << 22
-            }
+            Csr::Estat => self.estat(),
             Csr::Era => self.era.0,
             Csr::Badv => self.badv.0,
             Csr::Eentry => self.eentry.value() << 6,
@@ -83,16 +104,8 @@ impl Registers {
             Csr::Save3 => self.save3 = word,
             Csr::Tid => self.timer.tid = word,
             Csr::Tcfg => self.timer.set_tcfg(word),
-            Csr::Ticlr => {
-                if word % 2 == 1 {
-                    self.interrupts.pending.ti = false;
-                }
-            }
-            Csr::Llbctl => {
-                if (word >> 1) % 2 == 1 {
-                    self.link = false;
-                }
-            }
+            Csr::Ticlr => self.set_ticlr(word),
+            Csr::Llbctl => self.set_llbctl(word),
             Csr::Tlbrentry => self.tlbrentry = Bits::of_low_bits(word >> 6),
             Csr::Dmw0 => self.windows.dmw0 = Window::of_dmw(word),
             Csr::Dmw1 => self.windows.dmw1 = Window::of_dmw(word),
