@@ -1,2 +1,3 @@
-mod First
+pub mod First
 mod Emptied
+pub mod OnePage

@@ -25,9 +25,12 @@ find t at asid = find_from 0 t.entries at asid
 abbrev pub NoneFitsBelow : List Entry → ℕ → ℕ → ℕ → Type 0
 NoneFitsBelow es at asid n = (k : ℕ) → k < n → fits (entry_of es k) at asid ≡ false
 
--- an entry that fits, and none before it does; or none of all
+abbrev pub FitsFirst : List Entry → ℕ → ℕ → ℕ → Type 0
+FitsFirst es at asid i = (fits (entry_of es i) at asid ≡ true) × NoneFitsBelow es at asid i
+
+-- the first entry that fits, or that none of all does
 abbrev pub IsFirst : List Entry → ℕ → ℕ → Option ℕ → Type 0
-IsFirst es at asid (Some i) = (i < ENTRIES) × (fits (entry_of es i) at asid ≡ true) × NoneFitsBelow es at asid i
+IsFirst es at asid (Some i) = (i < ENTRIES) × FitsFirst es at asid i
 IsFirst es at asid None = NoneFitsBelow es at asid ENTRIES
 
 abbrev pub written : ℕ → Entry → Tlb → Tlb

@@ -1,0 +1,4 @@
+pub mod Layers
+pub mod Lying
+pub mod OnePage
+mod Together

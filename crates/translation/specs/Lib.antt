@@ -1,0 +1,2 @@
+pub mod Translation
+pub mod Laws
