@@ -1,7 +1,7 @@
 -- What each register reads after reset.
 use Rattle.std.proofs.Common.{◌≡◌, refl}
-use Rattle.control.specs.declared.csr.Csr.{Csr}
-use Rattle.control.specs.declared.csr.Csr.TheVariants.{Crmd, Prmd, Euen, Ecfg, Estat, Era, Badv, Eentry, Tlbidx, Tlbehi, Tlbelo0, Tlbelo1, Asid, Pgdl, Pgdh, Pgd, Cpuid, Save0, Save1, Save2, Save3, Tid, Tcfg, Tval, Ticlr, Llbctl, Tlbrentry, Ctag, Dmw0, Dmw1}
+use Rattle.control.specs.declared.number.Csr.{Csr}
+use Rattle.control.specs.declared.number.Csr.TheVariants.{Crmd, Prmd, Euen, Ecfg, Estat, Era, Badv, Eentry, Tlbidx, Tlbehi, Tlbelo0, Tlbelo1, Asid, Pgdl, Pgdh, Pgd, Cpuid, Save0, Save1, Save2, Save3, Tid, Tcfg, Tval, Ticlr, Llbctl, Tlbrentry, Ctag, Dmw0, Dmw1}
 use Rattle.control.specs.Registers.{read_of}
 use Rattle.control.specs.Reset.{reset_registers, reset_word}
 

@@ -3,8 +3,8 @@ use Rattle.std.specs.Prelude.{ℕ, ◌+◌, ◌-◌, ◌*◌, ◌^◌, ◌<◌, 
 use Rattle.csr.specs.Words.{flag, field}
 use Rattle.csr.specs.Exceptions.{ecode}
 use Rattle.csr.specs.Interrupts.{PendingFits}
-use Rattle.control.specs.declared.csr.Csr.{Csr}
-use Rattle.control.specs.declared.csr.Csr.TheVariants.{Crmd, Prmd, Euen, Ecfg, Estat, Era, Badv, Eentry, Tlbidx, Tlbehi, Tlbelo0, Tlbelo1, Asid, Pgdl, Pgdh, Pgd, Cpuid, Save0, Save1, Save2, Save3, Tid, Tcfg, Tval, Ticlr, Llbctl, Tlbrentry, Ctag, Dmw0, Dmw1}
+use Rattle.control.specs.declared.number.Csr.{Csr}
+use Rattle.control.specs.declared.number.Csr.TheVariants.{Crmd, Prmd, Euen, Ecfg, Estat, Era, Badv, Eentry, Tlbidx, Tlbehi, Tlbelo0, Tlbelo1, Asid, Pgdl, Pgdh, Pgd, Cpuid, Save0, Save1, Save2, Save3, Tid, Tcfg, Tval, Ticlr, Llbctl, Tlbrentry, Ctag, Dmw0, Dmw1}
 use Rattle.control.specs.declared.registers.Registers.{Registers}
 
 -- a field by its highest and its lowest bit, with what it holds after a write, of what it held and what is written there

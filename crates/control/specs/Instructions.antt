@@ -1,6 +1,6 @@
 -- CSRRD, CSRWR and CSRXCHG: an undefined register reads 0 and ignores writes.
 use Rattle.std.specs.Prelude.{◌≡◌, ℕ, ◌-◌, ◌^◌, Option, Some, None, bit_and, bit_or}
-use Rattle.control.specs.declared.csr.Csr.{Csr}
+use Rattle.control.specs.declared.number.Csr.{Csr}
 use Rattle.control.specs.declared.registers.Registers.{Registers}
 use Rattle.control.specs.Registers.{read_of, written}
 use Rattle.control.specs.Fields.{rows, read_back}

@@ -9,8 +9,8 @@ use Rattle.csr.specs.Interrupts.{is, with_swi, lie, lie_of}
 use Rattle.csr.specs.Timer.{tcfg, with_tcfg}
 use Rattle.csr.specs.Window.{dmw, dmw_of}
 use Rattle.csr.specs.TlbRegisters.{tlbelo, tlbelo_of, tlbidx, with_tlbidx, tlbehi, with_tlbehi}
-use Rattle.control.specs.declared.csr.Csr.{Csr}
-use Rattle.control.specs.declared.csr.Csr.TheVariants.{Crmd, Prmd, Euen, Ecfg, Estat, Era, Badv, Eentry, Tlbidx, Tlbehi, Tlbelo0, Tlbelo1, Asid, Pgdl, Pgdh, Pgd, Cpuid, Save0, Save1, Save2, Save3, Tid, Tcfg, Tval, Ticlr, Llbctl, Tlbrentry, Ctag, Dmw0, Dmw1}
+use Rattle.control.specs.declared.number.Csr.{Csr}
+use Rattle.control.specs.declared.number.Csr.TheVariants.{Crmd, Prmd, Euen, Ecfg, Estat, Era, Badv, Eentry, Tlbidx, Tlbehi, Tlbelo0, Tlbelo1, Asid, Pgdl, Pgdh, Pgd, Cpuid, Save0, Save1, Save2, Save3, Tid, Tcfg, Tval, Ticlr, Llbctl, Tlbrentry, Ctag, Dmw0, Dmw1}
 use Rattle.control.specs.declared.registers.Registers.{Registers}
 
 -- PGDL if BADV's highest bit is 0, else PGDH

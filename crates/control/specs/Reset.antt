@@ -11,8 +11,8 @@ use Rattle.csr.specs.declared.tlb_registers.TlbRegisters.{TlbRegisters}
 use Rattle.csr.specs.Interrupts.{lie_of}
 use Rattle.csr.specs.TlbRegisters.{tlbelo_of}
 use Rattle.csr.specs.Window.{dmw_of}
-use Rattle.control.specs.declared.csr.Csr.{Csr}
-use Rattle.control.specs.declared.csr.Csr.TheVariants.{Crmd, Tlbidx, Asid}
+use Rattle.control.specs.declared.number.Csr.{Csr}
+use Rattle.control.specs.declared.number.Csr.TheVariants.{Crmd, Tlbidx, Asid}
 use Rattle.control.specs.declared.registers.Registers.{Registers}
 use Rattle.control.specs.Registers.{read_of}
 

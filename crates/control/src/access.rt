@@ -3,7 +3,7 @@ ghost use Rattle.std.specs.Prelude.{◌≡◌};
 ghost use Rattle.control.specs.Registers.{pgd, estat, with_ticlr, with_llbctl, read_of, written};
 ghost use Rattle.control.specs.Fields.{ReadFits};
 
-use crate::csr::Csr;
+use crate::number::Csr;
 use crate::registers::Registers;
 use csr::{Enabled, TlbLow, Window};
 use pages::{Bits, Frame, VirtAddr};

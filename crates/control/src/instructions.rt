@@ -4,7 +4,7 @@ ghost use Rattle.control.specs.Numbers.{csr_numbered};
 ghost use Rattle.control.specs.Registers.{read_of};
 ghost use Rattle.control.specs.Instructions.{csrrd, csrwr, csrxchg, exchanged, ReadsBack};
 
-use crate::csr::Csr;
+use crate::number::Csr;
 use crate::registers::Registers;
 
 // The bits of the word where the mask is 1, and the old ones where it is 0.

@@ -2,12 +2,12 @@
 #![tactic(auto)]
 
 pub mod access;
-pub mod csr;
 pub mod exceptions;
 pub mod instructions;
+pub mod number;
 pub mod registers;
 pub mod reset;
 pub mod tlb_instructions;
 
-pub use csr::Csr;
+pub use number::Csr;
 pub use registers::Registers;
