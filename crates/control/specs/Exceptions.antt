@@ -20,8 +20,8 @@ raised r exception pc = record r {
   mode = handler_mode r.mode (cause_of exception);
   cause = cause_of exception;
   era = pc;
-  badv = unwrap_or (bad_address exception) r.badv;
-  tlb = record r.tlb { vppn = unwrap_or (faulting_page exception) r.tlb.vppn };
+  badv = unwrap_or (bad_address exception pc) r.badv;
+  tlb_registers = record r.tlb_registers { vppn = unwrap_or (faulting_page exception) r.tlb_registers.vppn };
 }
 
 -- ERTN

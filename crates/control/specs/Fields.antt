@@ -1,11 +1,12 @@
 -- The fields of each control register, and how each takes what is written to it: the law of reading back.
-use Rattle.std.specs.Prelude.{ℕ, ◌+◌, ◌-◌, ◌*◌, ◌^◌, ◌<◌, List, [], ◌∷◌, Bool, cond, ◌==◌, ◌||◌}
+use Rattle.std.specs.Prelude.{◌≡◌, ℕ, ◌+◌, ◌-◌, ◌*◌, ◌^◌, ◌<◌, List, [], ◌∷◌, Bool, cond, ◌==◌, ◌||◌, Option, Some, None}
 use Rattle.csr.specs.Words.{flag, field}
 use Rattle.csr.specs.Exceptions.{ecode}
 use Rattle.csr.specs.Interrupts.{PendingFits}
 use Rattle.control.specs.declared.number.Csr.{Csr}
 use Rattle.control.specs.declared.number.Csr.TheVariants.{Crmd, Prmd, Euen, Ecfg, Estat, Era, Badv, Eentry, Tlbidx, Tlbehi, Tlbelo0, Tlbelo1, Asid, Pgdl, Pgdh, Pgd, Cpuid, Save0, Save1, Save2, Save3, Tid, Tcfg, Tval, Ticlr, Llbctl, Tlbrentry, Ctag, Dmw0, Dmw1}
 use Rattle.control.specs.declared.registers.Registers.{Registers}
+use Rattle.control.specs.Registers.{pgd, read_of}
 
 -- a field by its highest and its lowest bit, with what it holds after a write, of what it held and what is written there
 abbrev pub Row : Type 0
@@ -55,7 +56,7 @@ rows Tlbelo1 = (0, 0, any) ∷ (1, 1, any) ∷ (3, 2, any) ∷ (5, 4, any) ∷ (
 rows Asid = (9, 0, any) ∷ (23, 16, read_only) ∷ []
 rows Pgdl = (31, 12, any) ∷ []
 rows Pgdh = (31, 12, any) ∷ []
-rows Pgd = (31, 0, read_only) ∷ []
+rows Pgd = (31, 12, read_only) ∷ []
 rows Cpuid = []
 rows Save0 = (31, 0, any) ∷ []
 rows Save1 = (31, 0, any) ∷ []
@@ -80,35 +81,16 @@ abbrev pub read_back : List Row → ℕ → ℕ → ℕ
 read_back [] old word = 0
 read_back (row ∷ rest) old word = row_after row old word + read_back rest old word
 
--- what is read of a register that a write changes in part: its fields have the widths that the rows give them
+-- of registers whose fields a write may leave: those fields fit the bits that the rows give them
 abbrev pub ReadFits : Registers → Csr → Type 0
-ReadFits r Crmd = Unit {0}
-ReadFits r Prmd = Unit {0}
-ReadFits r Euen = Unit {0}
-ReadFits r Ecfg = Unit {0}
 ReadFits r Estat = PendingFits r.interrupts.pending × (ecode r.cause < 2 ^ 6)
-ReadFits r Era = Unit {0}
-ReadFits r Badv = Unit {0}
-ReadFits r Eentry = Unit {0}
-ReadFits r Tlbidx = r.tlb.index < 2 ^ 4
-ReadFits r Tlbehi = Unit {0}
-ReadFits r Tlbelo0 = Unit {0}
-ReadFits r Tlbelo1 = Unit {0}
+ReadFits r Tlbidx = r.tlb_registers.index < 2 ^ 4
 ReadFits r Asid = r.mode.asid < 2 ^ 10
-ReadFits r Pgdl = Unit {0}
-ReadFits r Pgdh = Unit {0}
-ReadFits r Pgd = Unit {0}
-ReadFits r Cpuid = Unit {0}
-ReadFits r Save0 = Unit {0}
-ReadFits r Save1 = Unit {0}
-ReadFits r Save2 = Unit {0}
-ReadFits r Save3 = Unit {0}
-ReadFits r Tid = Unit {0}
-ReadFits r Tcfg = Unit {0}
-ReadFits r Tval = Unit {0}
-ReadFits r Ticlr = Unit {0}
-ReadFits r Llbctl = Unit {0}
-ReadFits r Tlbrentry = Unit {0}
-ReadFits r Ctag = Unit {0}
-ReadFits r Dmw0 = Unit {0}
-ReadFits r Dmw1 = Unit {0}
+ReadFits r Pgd = (pgd r).0 < 2 ^ 20
+ReadFits r _ = Unit {0}
+
+-- the law of reading back: a register that is written reads, field by field, what was written there, or what is left of what it read;
+-- a number that names no register changes nothing
+abbrev pub ReadsBack : Registers → Registers → Option Csr → ℕ → Type 0
+ReadsBack old new None word = new ≡ old
+ReadsBack old new (Some csr) word = read_of new csr ≡ read_back (rows csr) (read_of old csr) word

@@ -1,9 +1,8 @@
 -- CSRRD, CSRWR and CSRXCHG: an undefined register reads 0 and ignores writes.
-use Rattle.std.specs.Prelude.{◌≡◌, ℕ, ◌-◌, ◌^◌, Option, Some, None, bit_and, bit_or}
+use Rattle.std.specs.Prelude.{ℕ, ◌-◌, ◌^◌, Option, Some, None, bit_and, bit_or}
 use Rattle.control.specs.declared.number.Csr.{Csr}
 use Rattle.control.specs.declared.registers.Registers.{Registers}
 use Rattle.control.specs.Registers.{read_of, written}
-use Rattle.control.specs.Fields.{rows, read_back}
 
 abbrev pub csrrd : Registers → Option Csr → ℕ
 csrrd r None = 0
@@ -19,8 +18,3 @@ exchanged old word mask = bit_or (bit_and old (2 ^ 32 - 1 - mask)) (bit_and word
 
 abbrev pub csrxchg : Registers → Option Csr → ℕ → ℕ → Registers
 csrxchg r csr word mask = csrwr r csr (exchanged (csrrd r csr) word mask)
-
--- the law of reading back: field by field, what was written there, what is legal of it, or what stood there
-abbrev pub ReadsBack : Registers → Registers → Option Csr → ℕ → Type 0
-ReadsBack old new None word = csrrd new None ≡ 0
-ReadsBack old new (Some csr) word = read_of new csr ≡ read_back (rows csr) (read_of old csr) word

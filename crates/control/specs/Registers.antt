@@ -5,7 +5,7 @@ use Rattle.csr.specs.declared.interrupts.Interrupts.{Interrupts}
 use Rattle.csr.specs.Words.{bit, flag, field}
 use Rattle.csr.specs.Exceptions.{ecode, esubcode}
 use Rattle.csr.specs.Mode.{crmd, with_crmd, asid, with_asid, prmd, with_prmd}
-use Rattle.csr.specs.Interrupts.{is, with_swi, lie, lie_of}
+use Rattle.csr.specs.Interrupts.{is_bits, with_swi, lie_bits, enabled_of}
 use Rattle.csr.specs.Timer.{tcfg, with_tcfg}
 use Rattle.csr.specs.Window.{dmw, dmw_of}
 use Rattle.csr.specs.TlbRegisters.{tlbelo, tlbelo_of, tlbidx, with_tlbidx, tlbehi, with_tlbehi}
@@ -19,21 +19,21 @@ pgd r = cond (r.badv.0 / 2 ^ 31 == 0) r.pgdl r.pgdh
 
 -- IS 12:0, Ecode 21:16, EsubCode 30:22
 abbrev pub estat : Registers → ℕ
-estat r = is r.interrupts.pending + ecode r.cause * 2 ^ 16 + esubcode r.cause * 2 ^ 22
+estat r = is_bits r.interrupts.pending + ecode r.cause * 2 ^ 16 + esubcode r.cause * 2 ^ 22
 
 abbrev pub read_of : Registers → Csr → ℕ
 read_of r Crmd = crmd r.mode
 read_of r Prmd = prmd r.previous
 read_of r Euen = 0
-read_of r Ecfg = lie r.interrupts.enabled
+read_of r Ecfg = lie_bits r.interrupts.enabled
 read_of r Estat = estat r
 read_of r Era = r.era.0
 read_of r Badv = r.badv.0
 read_of r Eentry = r.eentry * 2 ^ 6
-read_of r Tlbidx = tlbidx r.tlb
-read_of r Tlbehi = tlbehi r.tlb
-read_of r Tlbelo0 = tlbelo r.tlb.elo0
-read_of r Tlbelo1 = tlbelo r.tlb.elo1
+read_of r Tlbidx = tlbidx r.tlb_registers
+read_of r Tlbehi = tlbehi r.tlb_registers
+read_of r Tlbelo0 = tlbelo r.tlb_registers.elo0
+read_of r Tlbelo1 = tlbelo r.tlb_registers.elo1
 read_of r Asid = asid r.mode
 read_of r Pgdl = r.pgdl.0 * 2 ^ 12
 read_of r Pgdh = r.pgdh.0 * 2 ^ 12
@@ -68,15 +68,15 @@ abbrev pub written : Registers → Csr → ℕ → Registers
 written r Crmd word = record r { mode = with_crmd r.mode word }
 written r Prmd word = record r { previous = with_prmd r.previous word }
 written r Euen word = r
-written r Ecfg word = record r { interrupts = record r.interrupts { enabled = lie_of word } }
+written r Ecfg word = record r { interrupts = record r.interrupts { enabled = enabled_of word } }
 written r Estat word = record r { interrupts = record r.interrupts { pending = with_swi r.interrupts.pending word } }
 written r Era word = record r { era = record { 0 = word } }
 written r Badv word = record r { badv = record { 0 = word } }
 written r Eentry word = record r { eentry = field word 6 26 }
-written r Tlbidx word = record r { tlb = with_tlbidx r.tlb word }
-written r Tlbehi word = record r { tlb = with_tlbehi r.tlb word }
-written r Tlbelo0 word = record r { tlb = record r.tlb { elo0 = tlbelo_of word } }
-written r Tlbelo1 word = record r { tlb = record r.tlb { elo1 = tlbelo_of word } }
+written r Tlbidx word = record r { tlb_registers = with_tlbidx r.tlb_registers word }
+written r Tlbehi word = record r { tlb_registers = with_tlbehi r.tlb_registers word }
+written r Tlbelo0 word = record r { tlb_registers = record r.tlb_registers { elo0 = tlbelo_of word } }
+written r Tlbelo1 word = record r { tlb_registers = record r.tlb_registers { elo1 = tlbelo_of word } }
 written r Asid word = record r { mode = with_asid r.mode word }
 written r Pgdl word = record r { pgdl = record { 0 = field word 12 20 } }
 written r Pgdh word = record r { pgdh = record { 0 = field word 12 20 } }

@@ -5,10 +5,10 @@ use Rattle.pages.specs.declared.privilege.Privilege.TheVariants.{Plv0}
 use Rattle.csr.specs.declared.exception.Cause.TheVariants.{Int}
 use Rattle.csr.specs.declared.interrupts.Interrupts.{Interrupts}
 use Rattle.csr.specs.declared.mode.Mode.{Mode}
-use Rattle.csr.specs.declared.mode.Translation.TheVariants.{Direct}
+use Rattle.csr.specs.declared.mode.TranslationMode.TheVariants.{Direct}
 use Rattle.csr.specs.declared.timer.Timer.{Timer}
 use Rattle.csr.specs.declared.tlb_registers.TlbRegisters.{TlbRegisters}
-use Rattle.csr.specs.Interrupts.{lie_of}
+use Rattle.csr.specs.Interrupts.{enabled_of}
 use Rattle.csr.specs.TlbRegisters.{tlbelo_of}
 use Rattle.csr.specs.Window.{dmw_of}
 use Rattle.control.specs.declared.number.Csr.{Csr}
@@ -20,7 +20,7 @@ abbrev pub reset_mode : Mode
 reset_mode = record { plv = Plv0; ie = false; translation = Direct; datf = 0; datm = 0; asid = 0 }
 
 abbrev pub reset_interrupts : Interrupts
-reset_interrupts = record { pending = record { swi = 0; hwi = 0; ti = false }; enabled = lie_of 0 }
+reset_interrupts = record { pending = record { swi = 0; hwi = 0; ti = false }; enabled = enabled_of 0 }
 
 abbrev pub reset_tlb : TlbRegisters
 reset_tlb = record { index = 0; ps = Small; ne = false; vppn = 0; elo0 = tlbelo_of 0; elo1 = tlbelo_of 0 }
@@ -38,7 +38,7 @@ reset_registers = record {
   badv = record { 0 = 0 };
   eentry = 0;
   tlbrentry = 0;
-  tlb = reset_tlb;
+  tlb_registers = reset_tlb;
   pgdl = record { 0 = 0 };
   pgdh = record { 0 = 0 };
   save0 = 0;

@@ -8,15 +8,15 @@ use Rattle.csr.specs.Exceptions.{is_refill}
 use Rattle.control.specs.declared.registers.Registers.{Registers}
 
 -- TLBWR and TLBFILL: E is 1 if NE is 0 or a refill is being handled, G if both G are 1
-abbrev pub entry_written : Registers → Entry
-entry_written r = record {
-  exists = not r.tlb.ne || is_refill r.cause;
+abbrev pub entry_to_write : Registers → Entry
+entry_to_write r = record {
+  exists = not r.tlb_registers.ne || is_refill r.cause;
   asid = r.mode.asid;
-  global = r.tlb.elo0.global && r.tlb.elo1.global;
-  page_size = r.tlb.ps;
-  vppn = r.tlb.vppn;
-  even = r.tlb.elo0.half;
-  odd = r.tlb.elo1.half;
+  global = r.tlb_registers.elo0.global && r.tlb_registers.elo1.global;
+  page_size = r.tlb_registers.ps;
+  vppn = r.tlb_registers.vppn;
+  even = r.tlb_registers.elo0.half;
+  odd = r.tlb_registers.elo1.half;
 }
 
 -- TLBSRCH: the first entry that fits gives Index and NE 0; if none does, NE is 1 and Index stays
@@ -25,7 +25,7 @@ tlb_found t (Some i) = record t { index = i; ne = false }
 tlb_found t None = record t { ne = true }
 
 abbrev pub searched : Registers → Tlb → Registers
-searched r tlb = record r { tlb = tlb_found r.tlb (find tlb (r.tlb.vppn * 2 ^ 13) r.mode.asid) }
+searched r tlb = record r { tlb_registers = tlb_found r.tlb_registers (find tlb (r.tlb_registers.vppn * 2 ^ 13) r.mode.asid) }
 
 -- TLBRD: an entry that exists gives its pages, their size and NE 0; an empty one sets NE and nothing else
 abbrev pub tlb_read : TlbRegisters → Entry → TlbRegisters
@@ -41,4 +41,4 @@ tlb_read t e = cond e.exists
     (record t { ne = true })
 
 abbrev pub entry_read : Registers → Entry → Registers
-entry_read r e = record r { tlb = tlb_read r.tlb e }
+entry_read r e = record r { tlb_registers = tlb_read r.tlb_registers e }

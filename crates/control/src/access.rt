@@ -5,12 +5,12 @@ ghost use Rattle.control.specs.Fields.{ReadFits};
 
 use crate::number::Csr;
 use crate::registers::Registers;
-use csr::{Enabled, TlbLow, Window};
+use csr::{Enabled, TlbLow, Window, flag};
 use pages::{Bits, Frame, VirtAddr};
 
 impl Registers {
     // The directory for the half of the address space in which BADV lies.
-    fn pgd(&self) -> Frame
+    fn pgd_frame(&self) -> Frame
         ensures { result ≡ pgd self.now }
     {
         if self.badv.0 >> 31 == 0 {
@@ -20,18 +20,25 @@ impl Registers {
         }
     }
 
+    fn pgd(&self) -> u32
+        ensures value { result ≡ read_of self.now Csr.Pgd }
+        ensures fits { ReadFits self.now Csr.Pgd }
+    {
+        self.pgd_frame().0.value() << 12
+    }
+
     fn estat(&self) -> u32
         ensures value { result ≡ estat self.now }
         ensures fits { ReadFits self.now Csr.Estat }
     {
-        self.interrupts.pending.is() | self.cause.ecode() << 16 | self.cause.esubcode() << 22
+        self.interrupts.pending.is_bits() | self.cause.ecode() << 16 | self.cause.esubcode() << 22
     }
 
     // Writing 1 to CLR clears the timer's interrupt.
     fn set_ticlr(&mut self, word: u32)
         ensures { self.new ≡ with_ticlr self.old word }
     {
-        if word % 2 == 1 {
+        if flag(word, 0) {
             self.interrupts.pending.ti = false;
         }
     }
@@ -40,7 +47,7 @@ impl Registers {
     fn set_llbctl(&mut self, word: u32)
         ensures { self.new ≡ with_llbctl self.old word }
     {
-        if (word >> 1) % 2 == 1 {
+        if flag(word, 1) {
             self.link = false;
         }
     }
@@ -52,19 +59,19 @@ impl Registers {
         match csr {
             Csr::Crmd => self.mode.crmd(),
             Csr::Prmd => self.previous.prmd(),
-            Csr::Ecfg => self.interrupts.enabled.lie(),
+            Csr::Ecfg => self.interrupts.enabled.lie_bits(),
             Csr::Estat => self.estat(),
             Csr::Era => self.era.0,
             Csr::Badv => self.badv.0,
             Csr::Eentry => self.eentry.value() << 6,
-            Csr::Tlbidx => self.tlb.tlbidx(),
-            Csr::Tlbehi => self.tlb.tlbehi(),
-            Csr::Tlbelo0 => self.tlb.elo0.tlbelo(),
-            Csr::Tlbelo1 => self.tlb.elo1.tlbelo(),
+            Csr::Tlbidx => self.tlb_registers.tlbidx(),
+            Csr::Tlbehi => self.tlb_registers.tlbehi(),
+            Csr::Tlbelo0 => self.tlb_registers.elo0.tlbelo(),
+            Csr::Tlbelo1 => self.tlb_registers.elo1.tlbelo(),
             Csr::Asid => self.mode.asid(),
             Csr::Pgdl => self.pgdl.0.value() << 12,
             Csr::Pgdh => self.pgdh.0.value() << 12,
-            Csr::Pgd => self.pgd().0.value() << 12,
+            Csr::Pgd => self.pgd(),
             Csr::Save0 => self.save0,
             Csr::Save1 => self.save1,
             Csr::Save2 => self.save2,
@@ -86,15 +93,15 @@ impl Registers {
         match csr {
             Csr::Crmd => self.mode.set_crmd(word),
             Csr::Prmd => self.previous.set_prmd(word),
-            Csr::Ecfg => self.interrupts.enabled = Enabled::of_lie(word),
+            Csr::Ecfg => self.interrupts.enabled = Enabled::of_lie_bits(word),
             Csr::Estat => self.interrupts.pending.set_swi(word),
             Csr::Era => self.era = VirtAddr(word),
             Csr::Badv => self.badv = VirtAddr(word),
             Csr::Eentry => self.eentry = Bits::of_low_bits(word >> 6),
-            Csr::Tlbidx => self.tlb.set_tlbidx(word),
-            Csr::Tlbehi => self.tlb.set_tlbehi(word),
-            Csr::Tlbelo0 => self.tlb.elo0 = TlbLow::of_tlbelo(word),
-            Csr::Tlbelo1 => self.tlb.elo1 = TlbLow::of_tlbelo(word),
+            Csr::Tlbidx => self.tlb_registers.set_tlbidx(word),
+            Csr::Tlbehi => self.tlb_registers.set_tlbehi(word),
+            Csr::Tlbelo0 => self.tlb_registers.elo0 = TlbLow::of_tlbelo(word),
+            Csr::Tlbelo1 => self.tlb_registers.elo1 = TlbLow::of_tlbelo(word),
             Csr::Asid => self.mode.set_asid(word),
             Csr::Pgdl => self.pgdl = Frame::of_low_bits(word >> 12),
             Csr::Pgdh => self.pgdh = Frame::of_low_bits(word >> 12),

@@ -12,7 +12,7 @@ impl Registers {
     fn handler(&self, cause: Cause) -> VirtAddr
         ensures { result ≡ handler self.now cause }
     {
-        let entry = if cause == Cause::Tlbr {
+        let entry = if cause.is_refill() {
             self.tlbrentry
         } else {
             self.eentry
@@ -33,8 +33,8 @@ impl Registers {
         self.mode.enter(cause);
         self.cause = cause;
         self.era = pc;
-        self.badv = exception.bad_address().unwrap_or(self.badv);
-        self.tlb.vppn = exception.faulting_page().unwrap_or(self.tlb.vppn);
+        self.badv = exception.bad_address(pc).unwrap_or(self.badv);
+        self.tlb_registers.vppn = exception.faulting_page().unwrap_or(self.tlb_registers.vppn);
         self.handler(cause)
     }
 

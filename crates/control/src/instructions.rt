@@ -2,7 +2,8 @@
 ghost use Rattle.std.specs.Prelude.{◌≡◌, Some};
 ghost use Rattle.control.specs.Numbers.{csr_numbered};
 ghost use Rattle.control.specs.Registers.{read_of};
-ghost use Rattle.control.specs.Instructions.{csrrd, csrwr, csrxchg, exchanged, ReadsBack};
+ghost use Rattle.control.specs.Fields.{ReadsBack};
+ghost use Rattle.control.specs.Instructions.{csrrd, csrwr, csrxchg, exchanged};
 
 use crate::number::Csr;
 use crate::registers::Registers;

@@ -1,4 +1,4 @@
-// The control registers' contents, and their state after reset.
+// The control registers' contents.
 use csr::{Cause, Interrupts, Mode, PreviousMode, Timer, TlbRegisters, Windows};
 use pages::{Bits, Frame, VirtAddr};
 
@@ -17,7 +17,7 @@ pub struct Registers {
     // Bits 31 to 6 of EENTRY and TLBRENTRY.
     pub eentry: Bits<26>,
     pub tlbrentry: Bits<26>,
-    pub tlb: TlbRegisters,
+    pub tlb_registers: TlbRegisters,
     // Bits 31 to 12 of PGDL and PGDH.
     pub pgdl: Frame,
     pub pgdh: Frame,

@@ -5,7 +5,7 @@ ghost use Rattle.control.specs.Reset.{reset_mode, reset_interrupts, reset_tlb, r
 use crate::registers::Registers;
 use csr::{
     Cause, Enabled, Interrupts, Mode, Pending, PreviousMode, Timer, TlbLow, TlbRegisters,
-    Translation, Window, Windows,
+    TranslationMode, Window, Windows,
 };
 use pages::{Bits, Frame, PageSize, Privilege, VirtAddr};
 
@@ -15,7 +15,7 @@ fn reset_mode() -> Mode
     Mode {
         plv: Privilege::Plv0,
         ie: false,
-        translation: Translation::Direct,
+        translation: TranslationMode::Direct,
         datf: Bits::of_low_bits(0),
         datm: Bits::of_low_bits(0),
         asid: Bits::of_low_bits(0),
@@ -31,7 +31,7 @@ fn reset_interrupts() -> Interrupts
             hwi: 0,
             ti: false,
         },
-        enabled: Enabled::of_lie(0),
+        enabled: Enabled::of_lie_bits(0),
     }
 }
 
@@ -63,7 +63,8 @@ fn reset_timer() -> Timer
 
 impl Registers {
     #[tactic(auto, using(crate::proofs::Resetting::reads_as_reset))]
-    pub fn reset() -> Registers
+    // As reset leaves them.
+    pub fn new() -> Registers
         ensures state { result ≡ reset_registers }
         ensures words { ReadsAsReset result }
     {
@@ -79,7 +80,7 @@ impl Registers {
             badv: VirtAddr(0),
             eentry: Bits::of_low_bits(0),
             tlbrentry: Bits::of_low_bits(0),
-            tlb: reset_tlb(),
+            tlb_registers: reset_tlb(),
             pgdl: Frame::of_low_bits(0),
             pgdh: Frame::of_low_bits(0),
             save0: 0,

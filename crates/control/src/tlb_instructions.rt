@@ -1,26 +1,26 @@
 // TLBSRCH, TLBRD, TLBWR and TLBFILL.
 ghost use Rattle.std.specs.Prelude.{◌≡◌};
 ghost use Rattle.tlb.specs.Searching.{entry, written, filled};
-ghost use Rattle.control.specs.TlbInstructions.{entry_written, searched, entry_read};
+ghost use Rattle.control.specs.TlbInstructions.{entry_to_write, searched, entry_read};
 
 use crate::registers::Registers;
-use csr::{Cause, TlbLow, TlbRegisters};
+use csr::{TlbLow, TlbRegisters};
 use pages::VirtAddr;
 use tlb::{Entry, Tlb};
 
 impl Registers {
     // The entry that TLBWR and TLBFILL write. While a refill is handled it always exists.
-    pub fn entry_written(&self) -> Entry
-        ensures { result ≡ entry_written self.now }
+    fn entry_to_write(&self) -> Entry
+        ensures { result ≡ entry_to_write self.now }
     {
         Entry {
-            exists: !self.tlb.ne || self.cause == Cause::Tlbr,
+            exists: !self.tlb_registers.ne || self.cause.is_refill(),
             asid: self.mode.asid,
-            global: self.tlb.elo0.global && self.tlb.elo1.global,
-            page_size: self.tlb.ps,
-            vppn: self.tlb.vppn,
-            even: self.tlb.elo0.half,
-            odd: self.tlb.elo1.half,
+            global: self.tlb_registers.elo0.global && self.tlb_registers.elo1.global,
+            page_size: self.tlb_registers.ps,
+            vppn: self.tlb_registers.vppn,
+            even: self.tlb_registers.elo0.half,
+            odd: self.tlb_registers.elo1.half,
         }
     }
 
@@ -28,27 +28,27 @@ impl Registers {
     pub fn tlbsrch(&mut self, tlb: &Tlb)
         ensures { self.new ≡ searched self.old tlb.now }
     {
-        let at = VirtAddr(self.tlb.vppn.value() << 13);
+        let at = VirtAddr(self.tlb_registers.vppn.value() << 13);
         match tlb.find(at, self.mode.asid) {
             Some(index) => {
-                self.tlb.index = index;
-                self.tlb.ne = false;
+                self.tlb_registers.index = index;
+                self.tlb_registers.ne = false;
             }
-            None => self.tlb.ne = true,
+            None => self.tlb_registers.ne = true,
         }
     }
 
     // TLBRD: ASID is not written, and an empty entry sets NE alone.
     pub fn tlbrd(&mut self, tlb: &Tlb)
-        ensures { self.new ≡ entry_read self.old (entry tlb.now self.old.tlb.index) }
+        ensures { self.new ≡ entry_read self.old (entry tlb.now self.old.tlb_registers.index) }
     {
-        let entry = tlb.entry(self.tlb.index);
+        let entry = tlb.entry(self.tlb_registers.index);
         if !entry.exists {
-            self.tlb.ne = true;
+            self.tlb_registers.ne = true;
             return;
         }
-        self.tlb = TlbRegisters {
-            index: self.tlb.index,
+        self.tlb_registers = TlbRegisters {
+            index: self.tlb_registers.index,
             ps: entry.page_size,
             ne: false,
             vppn: entry.vppn,
@@ -65,15 +65,15 @@ impl Registers {
 
     // TLBWR: at TLBIDX's Index.
     pub fn tlbwr(&self, tlb: &mut Tlb)
-        ensures { tlb.new ≡ written self.now.tlb.index (entry_written self.now) tlb.old }
+        ensures { tlb.new ≡ written self.now.tlb_registers.index (entry_to_write self.now) tlb.old }
     {
-        tlb.write(self.tlb.index, self.entry_written());
+        tlb.write(self.tlb_registers.index, self.entry_to_write());
     }
 
     // TLBFILL: at the fill place.
     pub fn tlbfill(&self, tlb: &mut Tlb)
-        ensures { tlb.new ≡ filled (entry_written self.now) tlb.old }
+        ensures { tlb.new ≡ filled (entry_to_write self.now) tlb.old }
     {
-        tlb.fill(self.entry_written());
+        tlb.fill(self.entry_to_write());
     }
 }

@@ -39,7 +39,7 @@ fault_cause fault.Pme = cause.Pme
 
 abbrev pub cause_of : Exception → Cause
 cause_of Int = cause.Int
-cause_of (Adef at) = cause.Adef
+cause_of Adef = cause.Adef
 cause_of (Ale at) = cause.Ale
 cause_of (Page fault at) = fault_cause fault
 cause_of Sys = cause.Sys
@@ -47,21 +47,21 @@ cause_of Brk = cause.Brk
 cause_of Ine = cause.Ine
 cause_of Ipe = cause.Ipe
 
--- a wrong or misaligned address and a fault of a page set BADV
-abbrev pub bad_address : Exception → Option VirtAddr
-bad_address Int = None
-bad_address (Adef at) = Some at
-bad_address (Ale at) = Some at
-bad_address (Page fault at) = Some at
-bad_address Sys = None
-bad_address Brk = None
-bad_address Ine = None
-bad_address Ipe = None
+-- BADV is set by a wrong PC, a misaligned address and a fault of a page
+abbrev pub bad_address : Exception → VirtAddr → Option VirtAddr
+bad_address Int pc = None
+bad_address Adef pc = Some pc
+bad_address (Ale at) pc = Some at
+bad_address (Page fault at) pc = Some at
+bad_address Sys pc = None
+bad_address Brk pc = None
+bad_address Ine pc = None
+bad_address Ipe pc = None
 
 -- a fault of a page sets TLBEHI's VPPN to the address's bits 31:13
 abbrev pub faulting_page : Exception → Option ℕ
 faulting_page Int = None
-faulting_page (Adef at) = None
+faulting_page Adef = None
 faulting_page (Ale at) = None
 faulting_page (Page fault at) = Some (at.0 / 2 ^ 13)
 faulting_page Sys = None

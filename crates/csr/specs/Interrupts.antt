@@ -6,8 +6,8 @@ use Rattle.csr.specs.declared.interrupts.Interrupts.{Interrupts}
 use Rattle.csr.specs.Words.{bit, flag, field}
 
 -- IS: software interrupts 1:0, hardware lines 9:2, timer 11
-abbrev pub is : Pending → ℕ
-is p = p.swi + p.hwi * 2 ^ 2 + bit p.ti * 2 ^ 11
+abbrev pub is_bits : Pending → ℕ
+is_bits p = p.swi + p.hwi * 2 ^ 2 + bit p.ti * 2 ^ 11
 
 -- the two numbers of it have 2 and 8 bits
 abbrev pub PendingFits : Pending → Type 0
@@ -17,12 +17,12 @@ abbrev pub with_swi : Pending → ℕ → Pending
 with_swi p word = record p { swi = field word 0 2 }
 
 -- LIE: 9:0 and 12:11
-abbrev pub lie : Enabled → ℕ
-lie e = e.swi + e.hwi * 2 ^ 2 + bit e.ti * 2 ^ 11 + bit e.ipi * 2 ^ 12
+abbrev pub lie_bits : Enabled → ℕ
+lie_bits e = e.swi + e.hwi * 2 ^ 2 + bit e.ti * 2 ^ 11 + bit e.ipi * 2 ^ 12
 
-abbrev pub lie_of : ℕ → Enabled
-lie_of word = record { swi = field word 0 2; hwi = field word 2 8; ti = flag word 11; ipi = flag word 12 }
+abbrev pub enabled_of : ℕ → Enabled
+enabled_of word = record { swi = field word 0 2; hwi = field word 2 8; ti = flag word 11; ipi = flag word 12 }
 
 -- an interrupt is due if IS and LIE share a 1
 abbrev pub due : Interrupts → Bool
-due i = nat_lt 0 (bit_and (is i.pending) (lie i.enabled))
+due i = nat_lt 0 (bit_and (is_bits i.pending) (lie_bits i.enabled))

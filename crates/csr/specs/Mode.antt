@@ -3,20 +3,20 @@ use Rattle.std.specs.Prelude.{ℕ, ◌+◌, ◌*◌, ◌^◌, Bool, true, false,
 use Rattle.pages.specs.declared.privilege.Privilege.TheVariants.{Plv0, Plv3}
 use Rattle.pages.specs.Kinds.{plv, plv_written}
 use Rattle.csr.specs.declared.exception.Cause.{Cause}
-use Rattle.csr.specs.declared.mode.Translation.{Translation}
-use Rattle.csr.specs.declared.mode.Translation.TheVariants.{Direct, Mapped}
+use Rattle.csr.specs.declared.mode.TranslationMode.{TranslationMode}
+use Rattle.csr.specs.declared.mode.TranslationMode.TheVariants.{Direct, Mapped}
 use Rattle.csr.specs.declared.mode.Mode.{Mode}
 use Rattle.csr.specs.declared.previous.PreviousMode.{PreviousMode}
 use Rattle.csr.specs.Words.{bit, flag, field}
 use Rattle.csr.specs.Exceptions.{is_refill}
 
 -- DA is bit 0 of the two, PG bit 1
-abbrev pub da_pg : Translation → ℕ
+abbrev pub da_pg : TranslationMode → ℕ
 da_pg Direct = 1
 da_pg Mapped = 2
 
 -- equal ones leave both as they were
-abbrev pub da_pg_written : Translation → ℕ → Translation
+abbrev pub da_pg_written : TranslationMode → ℕ → TranslationMode
 da_pg_written old number = cond (number == 1) Direct (cond (number == 2) Mapped old)
 
 -- CRMD: PLV 1:0, IE 2, DA 3, PG 4, DATF 6:5, DATM 8:7

@@ -1,6 +1,6 @@
 // Exceptions by the manual's names.
 ghost use Rattle.std.specs.Prelude.{◌≡◌, ◌^◌, ◌<◌};
-ghost use Rattle.csr.specs.Exceptions.{ecode, esubcode, fault_cause, cause_of, bad_address, faulting_page};
+ghost use Rattle.csr.specs.Exceptions.{ecode, esubcode, is_refill, fault_cause, cause_of, bad_address, faulting_page};
 
 use pages::{VirtAddr, Vppn};
 
@@ -40,7 +40,7 @@ pub enum PageFault {
 #[derive(Clone, Copy, PartialEq, Eq, Debug)]
 pub enum Exception {
     Int,
-    Adef(VirtAddr),
+    Adef,
     Ale(VirtAddr),
     Page(PageFault, VirtAddr),
     Sys,
@@ -69,6 +69,12 @@ impl Cause {
             Cause::Ipe => 0xe,
             Cause::Tlbr => 0x3f,
         }
+    }
+
+    pub fn is_refill(self) -> bool
+        ensures { result ≡ is_refill self }
+    {
+        self == Cause::Tlbr
     }
 
     // The one cause with another second code, a wrong address of a load or store, never comes.
@@ -100,7 +106,7 @@ impl Exception {
     {
         match self {
             Exception::Int => Cause::Int,
-            Exception::Adef(_) => Cause::Adef,
+            Exception::Adef => Cause::Adef,
             Exception::Ale(_) => Cause::Ale,
             Exception::Page(fault, _) => fault.cause(),
             Exception::Sys => Cause::Sys,
@@ -110,12 +116,13 @@ impl Exception {
         }
     }
 
-    // What it writes to BADV.
-    pub fn bad_address(self) -> Option<VirtAddr>
-        ensures { result ≡ bad_address self }
+    // What it writes to BADV, at an instruction of that address.
+    pub fn bad_address(self, pc: VirtAddr) -> Option<VirtAddr>
+        ensures { result ≡ bad_address self pc }
     {
         match self {
-            Exception::Adef(at) | Exception::Ale(at) | Exception::Page(_, at) => Some(at),
+            Exception::Adef => Some(pc),
+            Exception::Ale(at) | Exception::Page(_, at) => Some(at),
             _ => None,
         }
     }

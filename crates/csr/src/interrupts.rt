@@ -1,7 +1,8 @@
 // Interrupts: which are pending (ESTAT.IS), and which are enabled one by one (ECFG.LIE).
 ghost use Rattle.std.specs.Prelude.{◌≡◌};
-ghost use Rattle.csr.specs.Interrupts.{is, PendingFits, lie, with_swi, lie_of, due};
+ghost use Rattle.csr.specs.Interrupts.{is_bits, PendingFits, lie_bits, with_swi, enabled_of, due};
 
+use crate::words::flag;
 use pages::Bits;
 
 // Software interrupts, hardware lines, the timer's. Nothing brings about an interrupt between processors, there being one.
@@ -27,8 +28,8 @@ pub struct Interrupts {
 }
 
 impl Pending {
-    pub fn is(&self) -> u32
-        ensures value { result ≡ is self.now }
+    pub fn is_bits(&self) -> u32
+        ensures value { result ≡ is_bits self.now }
         ensures fits { PendingFits self.now }
     {
         self.swi.value() | u32::from(self.hwi) << 2 | u32::from(self.ti) << 11
@@ -43,8 +44,8 @@ impl Pending {
 }
 
 impl Enabled {
-    pub fn lie(&self) -> u32
-        ensures { result ≡ lie self.now }
+    pub fn lie_bits(&self) -> u32
+        ensures { result ≡ lie_bits self.now }
     {
         self.swi.value()
             | u32::from(self.hwi) << 2
@@ -52,14 +53,14 @@ impl Enabled {
             | u32::from(self.ipi) << 12
     }
 
-    pub fn of_lie(word: u32) -> Enabled
-        ensures { result ≡ lie_of word }
+    pub fn of_lie_bits(word: u32) -> Enabled
+        ensures { result ≡ enabled_of word }
     {
         Enabled {
             swi: Bits::of_low_bits(word),
             hwi: ((word >> 2) % 0x100) as u8,
-            ti: (word >> 11) % 2 == 1,
-            ipi: (word >> 12) % 2 == 1,
+            ti: flag(word, 11),
+            ipi: flag(word, 12),
         }
     }
 }

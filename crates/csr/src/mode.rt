@@ -4,11 +4,12 @@ ghost use Rattle.csr.specs.Mode.{da_pg, da_pg_written, crmd, with_crmd, asid, wi
 
 use crate::exception::Cause;
 use crate::previous::PreviousMode;
+use crate::words::flag;
 use pages::{AccessType, Asid, Bits, Privilege};
 
 // CRMD's DA and PG: 1 and 0, or 0 and 1.
 #[derive(Clone, Copy, PartialEq, Eq, Debug)]
-pub enum Translation {
+pub enum TranslationMode {
     Direct,
     Mapped,
 }
@@ -17,30 +18,30 @@ pub enum Translation {
 pub struct Mode {
     pub plv: Privilege,
     pub ie: bool,
-    pub translation: Translation,
+    pub translation: TranslationMode,
     pub datf: AccessType,
     pub datm: AccessType,
     pub asid: Asid,
 }
 
-impl Translation {
+impl TranslationMode {
     // PG and DA as a number of two bits.
     pub fn number(self) -> u32
         ensures { result ≡ da_pg self }
     {
         match self {
-            Translation::Direct => 1,
-            Translation::Mapped => 2,
+            TranslationMode::Direct => 1,
+            TranslationMode::Mapped => 2,
         }
     }
 
     // What DA and PG hold after that number was written to them.
-    pub fn written(self, number: u32) -> Translation
+    pub fn written(self, number: u32) -> TranslationMode
         ensures { result ≡ da_pg_written self number }
     {
         match number {
-            1 => Translation::Direct,
-            2 => Translation::Mapped,
+            1 => TranslationMode::Direct,
+            2 => TranslationMode::Mapped,
             _ => self,
         }
     }
@@ -61,7 +62,7 @@ impl Mode {
         ensures { self.new ≡ with_crmd self.old word }
     {
         self.plv = self.plv.written(word % 4);
-        self.ie = (word >> 2) % 2 == 1;
+        self.ie = flag(word, 2);
         self.translation = self.translation.written((word >> 3) % 4);
         self.datf = Bits::of_low_bits(word >> 5);
         self.datm = Bits::of_low_bits(word >> 7);
@@ -86,8 +87,8 @@ impl Mode {
     {
         self.plv = Privilege::Plv0;
         self.ie = false;
-        if cause == Cause::Tlbr {
-            self.translation = Translation::Direct;
+        if cause.is_refill() {
+            self.translation = TranslationMode::Direct;
         }
     }
 
@@ -97,8 +98,8 @@ impl Mode {
     {
         self.plv = previous.pplv;
         self.ie = previous.pie;
-        if cause == Cause::Tlbr {
-            self.translation = Translation::Mapped;
+        if cause.is_refill() {
+            self.translation = TranslationMode::Mapped;
         }
     }
 }

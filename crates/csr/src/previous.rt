@@ -2,6 +2,7 @@
 ghost use Rattle.std.specs.Prelude.{◌≡◌};
 ghost use Rattle.csr.specs.Mode.{prmd, with_prmd};
 
+use crate::words::flag;
 use pages::Privilege;
 
 #[derive(Clone, Copy, PartialEq, Eq, Debug)]
@@ -21,6 +22,6 @@ impl PreviousMode {
         ensures { self.new ≡ with_prmd self.old word }
     {
         self.pplv = self.pplv.written(word % 4);
-        self.pie = (word >> 2) % 2 == 1;
+        self.pie = flag(word, 2);
     }
 }

@@ -2,6 +2,7 @@
 ghost use Rattle.std.specs.Prelude.{◌≡◌, ◌*◌};
 ghost use Rattle.csr.specs.Timer.{tcfg, with_tcfg, after_beat, runs_out};
 
+use crate::words::flag;
 use pages::Bits;
 
 #[derive(Clone, Copy, PartialEq, Eq, Debug)]
@@ -21,12 +22,12 @@ impl Timer {
         u32::from(self.en) | u32::from(self.periodic) << 1 | self.init_val.value() << 2
     }
 
-    // Enabling it starts it anew.
+    // With En 1 TVAL becomes 4 times InitVal.
     pub fn set_tcfg(&mut self, word: u32)
         ensures { self.new ≡ with_tcfg self.old word }
     {
-        self.en = word % 2 == 1;
-        self.periodic = (word >> 1) % 2 == 1;
+        self.en = flag(word, 0);
+        self.periodic = flag(word, 1);
         self.init_val = Bits::of_low_bits(word >> 2);
         if self.en {
             self.tval = self.start();

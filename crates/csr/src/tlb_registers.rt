@@ -2,7 +2,8 @@
 ghost use Rattle.std.specs.Prelude.{◌≡◌, ◌^◌, ◌<◌};
 ghost use Rattle.csr.specs.TlbRegisters.{tlbelo, tlbelo_of, tlbidx, with_tlbidx, tlbehi, with_tlbehi};
 
-use pages::{Bits, Frame, Half, Index, PageSize, Vppn};
+use crate::words::flag;
+use pages::{Bits, Frame, Half, PageSize, TlbIndex, Vppn};
 
 // TLBELO0 or TLBELO1: a page, and a bit of its own for G.
 #[derive(Clone, Copy, PartialEq, Eq, Debug)]
@@ -13,7 +14,7 @@ pub struct TlbLow {
 
 #[derive(Clone, Copy, PartialEq, Eq, Debug)]
 pub struct TlbRegisters {
-    pub index: Index,
+    pub index: TlbIndex,
     pub ps: PageSize,
     pub ne: bool,
     pub vppn: Vppn,
@@ -38,13 +39,13 @@ impl TlbLow {
     {
         TlbLow {
             half: Half {
-                valid: word % 2 == 1,
-                dirty: (word >> 1) % 2 == 1,
+                valid: flag(word, 0),
+                dirty: flag(word, 1),
                 plv: Bits::of_low_bits(word >> 2),
                 mat: Bits::of_low_bits(word >> 4),
                 frame: Frame::of_low_bits(word >> 8),
             },
-            global: (word >> 6) % 2 == 1,
+            global: flag(word, 6),
         }
     }
 }
@@ -62,7 +63,7 @@ impl TlbRegisters {
     {
         self.index = Bits::of_low_bits(word);
         self.ps = self.ps.written((word >> 24) % 64);
-        self.ne = word >> 31 == 1;
+        self.ne = flag(word, 31);
     }
 
     pub fn tlbehi(&self) -> u32

@@ -2,6 +2,7 @@
 ghost use Rattle.std.specs.Prelude.{◌≡◌};
 ghost use Rattle.csr.specs.Window.{dmw, dmw_of};
 
+use crate::words::flag;
 use pages::{AccessType, Bits};
 
 // Each maps 512 MiB: addresses whose bits 31 to 29 are VSEG, to those whose bits 31 to 29 are PSEG.
@@ -35,8 +36,8 @@ impl Window {
         ensures { result ≡ dmw_of word }
     {
         Window {
-            plv0: word % 2 == 1,
-            plv3: (word >> 3) % 2 == 1,
+            plv0: flag(word, 0),
+            plv3: flag(word, 3),
             mat: Bits::of_low_bits(word >> 4),
             pseg: Bits::of_low_bits(word >> 25),
             vseg: Bits::of_low_bits(word >> 29),

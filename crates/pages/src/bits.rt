@@ -15,7 +15,7 @@ pub type Asid = Bits<10>;
 pub type Vppn = Bits<19>;
 
 // The number of a TLB entry.
-pub type Index = Bits<4>;
+pub type TlbIndex = Bits<4>;
 
 // How memory is accessed: 0 strongly ordered and uncached, 1 coherent and cached, 2 and 3 reserved.
 pub type AccessType = Bits<2>;

@@ -18,7 +18,7 @@ odd_there Large at near same = ap (λ n. n == 1) (omega arith)
 
 fits_there : (e : Entry) (at near asid : ℕ) → near / 2 ^ 12 ≡ at / 2 ^ 12 → fits e near asid ≡ fits e at asid
 fits_there e at near asid same =
-    ap (λ b. e.exists && (e.global || e.asid == asid) && b) (same_pair_there e.page_size e.vppn at near same)
+    ap (λ b. e.exists && ((e.global || e.asid == asid) && b)) (same_pair_there e.page_size e.vppn at near same)
 
 pub find_there : (k : ℕ) (es : List Entry) (at near asid : ℕ) → near / 2 ^ 12 ≡ at / 2 ^ 12
     → find_from k es near asid ≡ find_from k es at asid

@@ -1,6 +1,6 @@
 // An entry of the TLB: which pair of pages it maps, and for whom.
 ghost use Rattle.std.specs.Prelude.{◌≡◌};
-ghost use Rattle.tlb.specs.Entries.{empty, covers, fits, odd, half};
+ghost use Rattle.tlb.specs.Entries.{empty, covers, meant, fits, odd, half};
 
 use pages::{Asid, Bits, Frame, Half, PageSize, VirtAddr, Vppn};
 
@@ -49,11 +49,17 @@ impl Entry {
         }
     }
 
-    // Whether it maps the address for a program of that ASID.
+    // Whether it maps the address for a program of that ASID, if it exists.
+    pub(crate) fn is_meant(&self, at: VirtAddr, asid: Asid) -> bool
+        ensures { result ≡ meant self.now at.0 asid }
+    {
+        (self.global || self.asid == asid) && self.covers(at)
+    }
+
     pub fn fits(&self, at: VirtAddr, asid: Asid) -> bool
         ensures { result ≡ fits self.now at.0 asid }
     {
-        self.exists && (self.global || self.asid.value() == asid.value()) && self.covers(at)
+        self.exists && self.is_meant(at, asid)
     }
 
     // Bit PS of the address: whether it lies in the second of the two pages, if in one of them.

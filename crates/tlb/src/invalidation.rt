@@ -41,15 +41,11 @@ impl Invalidation {
             Invalidation::All => true,
             Invalidation::Global => entry.global,
             Invalidation::NotGlobal => !entry.global,
-            Invalidation::NotGlobalOfAsid(asid) => {
-                !entry.global && entry.asid.value() == asid.value()
-            }
+            Invalidation::NotGlobalOfAsid(asid) => !entry.global && entry.asid == asid,
             Invalidation::NotGlobalOfAsidAt(asid, at) => {
-                !entry.global && entry.asid.value() == asid.value() && entry.covers(at)
+                !entry.global && entry.asid == asid && entry.covers(at)
             }
-            Invalidation::GlobalOrOfAsidAt(asid, at) => {
-                (entry.global || entry.asid.value() == asid.value()) && entry.covers(at)
-            }
+            Invalidation::GlobalOrOfAsidAt(asid, at) => entry.is_meant(at, asid),
         }
     }
 }

@@ -1,24 +1,24 @@
-// The TLB's entries, and the place where the next one without a place of its own goes.
+// The TLB's entries, and the index that the next TLBFILL writes.
 ghost use Rattle.std.specs.Prelude.{◌≡◌, length};
 ghost use Rattle.tlb.specs.Searching.{reset, entry, find, find_from, IsFirst, written, filled};
 ghost use Rattle.tlb.specs.Invalidating.{invalidated};
 
 use crate::entry::Entry;
 use crate::invalidation::Invalidation;
-use pages::{Asid, Bits, Index, VirtAddr};
+use pages::{Asid, Bits, TlbIndex, VirtAddr};
 use std::mem;
 
-// An index has a place for each.
+// As many as an index has values.
 const ENTRIES: usize = 16;
 
 #[derive(Clone, Copy, PartialEq, Eq, Debug)]
 pub struct Tlb {
     entries: [Entry; ENTRIES],
-    fill_at: Index,
+    fill_at: TlbIndex,
 }
 
 // The search stands over a slice, since within a loop it is not known how many entries an array behind a reference has.
-fn first(entries: &[Entry], at: VirtAddr, asid: Asid) -> Option<Index>
+fn first(entries: &[Entry], at: VirtAddr, asid: Asid) -> Option<TlbIndex>
     requires { length entries.now ≡ ENTRIES }
     ensures value { result ≡ find_from 0 entries.now at.0 asid }
     ensures first { IsFirst entries.now at.0 asid result }
@@ -43,27 +43,27 @@ impl Tlb {
     }
 
     // The first entry that maps the address for a program of that ASID.
-    pub fn find(&self, at: VirtAddr, asid: Asid) -> Option<Index>
+    pub fn find(&self, at: VirtAddr, asid: Asid) -> Option<TlbIndex>
         ensures value { result ≡ find self.now at.0 asid }
         ensures first { IsFirst self.now.entries at.0 asid result }
     {
         first(&self.entries, at, asid)
     }
 
-    pub fn entry(&self, index: Index) -> &Entry
+    pub fn entry(&self, index: TlbIndex) -> &Entry
         ensures { result.now ≡ entry self.now index }
     {
         &self.entries[index.value() as usize]
     }
 
     // Where the next fill goes.
-    pub fn fill_at(&self) -> Index
+    pub fn fill_at(&self) -> TlbIndex
         ensures { result ≡ self.now.fill_at }
     {
         self.fill_at
     }
 
-    pub fn write(&mut self, index: Index, entry: Entry)
+    pub fn write(&mut self, index: TlbIndex, entry: Entry)
         ensures { self.new ≡ written index entry self.old }
     {
         self.entries[index.value() as usize] = entry;

@@ -1,4 +1,4 @@
-pub mod Layers
+pub mod Ways
 pub mod Lying
 pub mod OnePage
 mod Together

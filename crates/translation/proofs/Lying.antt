@@ -14,12 +14,12 @@ use Rattle.tlb.proofs.First.{find_first}
 use Rattle.csr.specs.declared.exception.PageFault.{PageFault}
 use Rattle.csr.specs.declared.exception.PageFault.TheVariants.{Ppi, Pme}
 use Rattle.csr.specs.declared.mode.Mode.{Mode}
-use Rattle.csr.specs.declared.mode.Translation.TheVariants.{Mapped}
+use Rattle.csr.specs.declared.mode.TranslationMode.TheVariants.{Mapped}
 use Rattle.csr.specs.declared.window.Window.{Window}
 use Rattle.csr.specs.declared.window.Windows.{Windows}
 use Rattle.translation.specs.Translation.{applies, place_in, is_store, invalid, permission, in_page, if_permitted, through_page, translation}
 use Rattle.translation.specs.Laws.{SameOffset, InSegment, InFrame, LeadsTo, direct, window0, window1, page, LoadsFrom}
-use Rattle.translation.proofs.Layers.{each_way, goes_direct, goes_by_window, goes_by_page}
+use Rattle.translation.proofs.Ways.{each_way, goes_direct, goes_by_window, goes_by_page}
 
 offset_in : (size : PageSize) (frame at : ℕ) → SameOffset at (place_in size frame at)
 offset_in Small frame at = omega arith

@@ -13,8 +13,8 @@ use Rattle.tlb.specs.Searching.{entry, find}
 use Rattle.tlb.proofs.OnePage.{find_there, half_there}
 use Rattle.csr.specs.declared.exception.PageFault.{PageFault}
 use Rattle.csr.specs.declared.mode.Mode.{Mode}
-use Rattle.csr.specs.declared.mode.Translation.{Translation}
-use Rattle.csr.specs.declared.mode.Translation.TheVariants.{Direct, Mapped}
+use Rattle.csr.specs.declared.mode.TranslationMode.{TranslationMode}
+use Rattle.csr.specs.declared.mode.TranslationMode.TheVariants.{Direct, Mapped}
 use Rattle.csr.specs.declared.window.Window.{Window}
 use Rattle.csr.specs.declared.window.Windows.{Windows}
 use Rattle.translation.specs.Translation.{Place, place, direct_type, admits, window_for, place_in, permission, in_page, if_permitted, through_found, by_window, by_mode, translation}
@@ -57,7 +57,7 @@ by_window_there mode tlb kind at near same None =
     ∙ found_there mode tlb kind at near same (find tlb at mode.asid)
 
 by_mode_there : (mode : Mode) (ws : Windows) (tlb : Tlb) (kind : AccessKind) (at near : ℕ) → near / 2 ^ 12 ≡ at / 2 ^ 12
-    → (t : Translation) → by_mode t mode ws tlb kind near ≡ moved near (by_mode t mode ws tlb kind at)
+    → (t : TranslationMode) → by_mode t mode ws tlb kind near ≡ moved near (by_mode t mode ws tlb kind at)
 by_mode_there mode ws tlb kind at near same Direct =
     let to : near ≡ at / 2 ^ 12 * 2 ^ 12 + near % 2 ^ 12 = omega arith in
     ap (λ n. Ok (place n (direct_type mode kind))) to

@@ -2,13 +2,13 @@
 use Rattle.std.proofs.Common.{◌≡◌, ℕ, Result, IfOk, sym, subst, ◌∙◌}
 use Rattle.csr.specs.declared.exception.PageFault.{PageFault}
 use Rattle.csr.specs.declared.mode.Mode.{Mode}
-use Rattle.csr.specs.declared.mode.Translation.TheVariants.{Mapped}
+use Rattle.csr.specs.declared.mode.TranslationMode.TheVariants.{Mapped}
 use Rattle.csr.specs.declared.window.Windows.{Windows}
 use Rattle.pages.specs.declared.access_kind.AccessKind.{AccessKind}
 use Rattle.tlb.specs.declared.table.Tlb.{Tlb}
 use Rattle.translation.specs.Translation.{Place, mapped, translation}
 use Rattle.translation.specs.Laws.{SameOffset, LeadsTo, LoadsFrom, WholePage}
-use Rattle.translation.proofs.Layers.{goes_mapped}
+use Rattle.translation.proofs.Ways.{goes_mapped}
 use Rattle.translation.proofs.Lying.{same_offset, leads_to, loads_from}
 use Rattle.translation.proofs.OnePage.{whole_page}
 

@@ -10,7 +10,7 @@ use Rattle.tlb.specs.Entries.{half}
 use Rattle.tlb.specs.Searching.{entry, FitsFirst}
 use Rattle.csr.specs.declared.exception.PageFault.{PageFault}
 use Rattle.csr.specs.declared.mode.Mode.{Mode}
-use Rattle.csr.specs.declared.mode.Translation.TheVariants.{Direct, Mapped}
+use Rattle.csr.specs.declared.mode.TranslationMode.TheVariants.{Direct, Mapped}
 use Rattle.csr.specs.declared.window.Window.{Window}
 use Rattle.csr.specs.declared.window.Windows.{Windows}
 use Rattle.translation.specs.Translation.{Place, place, applies, translation}

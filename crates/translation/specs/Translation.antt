@@ -1,4 +1,4 @@
--- How an address is translated, layer by layer.
+-- How an address is translated: direct, through a window, or through the TLB.
 use Rattle.std.specs.Prelude.{ℕ, ◌+◌, ◌*◌, ◌/◌, ◌%◌, ◌^◌, Bool, true, false, cond, not, nat_lt, ◌==◌, ◌&&◌, Some, None, Option, Ok, Err, Result}
 use Rattle.bus.specs.Memory.{address}
 use Rattle.bus.specs.declared.address.PhysAddr.{PhysAddr}
@@ -17,8 +17,8 @@ use Rattle.tlb.specs.Searching.{entry, find}
 use Rattle.csr.specs.declared.exception.PageFault.{PageFault}
 use Rattle.csr.specs.declared.exception.PageFault.TheVariants.{Tlbr, Pif, Pil, Pis, Ppi, Pme}
 use Rattle.csr.specs.declared.mode.Mode.{Mode}
-use Rattle.csr.specs.declared.mode.Translation.{Translation}
-use Rattle.csr.specs.declared.mode.Translation.TheVariants.{Direct, Mapped}
+use Rattle.csr.specs.declared.mode.TranslationMode.{TranslationMode}
+use Rattle.csr.specs.declared.mode.TranslationMode.TheVariants.{Direct, Mapped}
 use Rattle.csr.specs.declared.window.Window.{Window}
 use Rattle.csr.specs.declared.window.Windows.{Windows}
 
@@ -99,7 +99,7 @@ by_window None mode tlb kind at = through_tlb mode tlb kind at
 abbrev pub mapped : Mode → Windows → Tlb → AccessKind → ℕ → Result Place PageFault
 mapped mode ws tlb kind at = by_window (window_for ws mode.plv at) mode tlb kind at
 
-abbrev pub by_mode : Translation → Mode → Windows → Tlb → AccessKind → ℕ → Result Place PageFault
+abbrev pub by_mode : TranslationMode → Mode → Windows → Tlb → AccessKind → ℕ → Result Place PageFault
 by_mode Direct mode ws tlb kind at = Ok (direct mode kind at)
 by_mode Mapped mode ws tlb kind at = mapped mode ws tlb kind at
 

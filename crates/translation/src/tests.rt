@@ -1,6 +1,6 @@
 use crate::translate;
 use bus::PhysAddr;
-use csr::{Mode, PageFault, Translation, Window, Windows};
+use csr::{Mode, PageFault, TranslationMode, Window, Windows};
 use pages::{AccessKind, Bits, Frame, Half, PageSize, Privilege, VirtAddr};
 use tlb::{Entry, Tlb};
 
@@ -8,7 +8,7 @@ fn mapped(plv: Privilege) -> Mode {
     Mode {
         plv,
         ie: false,
-        translation: Translation::Mapped,
+        translation: TranslationMode::Mapped,
         datf: Bits::of_low_bits(0),
         datm: Bits::of_low_bits(0),
         asid: Bits::of_low_bits(0),

@@ -6,7 +6,7 @@ ghost use Rattle.translation.specs.Laws.{SameOffset, LeadsTo, LoadsFrom, WholePa
 use crate::page::through_tlb;
 use crate::window::{through_window, window_for};
 use bus::PhysAddr;
-use csr::{Mode, PageFault, Translation, Windows};
+use csr::{Mode, PageFault, TranslationMode, Windows};
 use pages::{AccessKind, AccessType, VirtAddr};
 use tlb::Tlb;
 
@@ -44,7 +44,7 @@ pub fn translate(
 ) -> Result<(PhysAddr, AccessType), PageFault>
     ensures value { result ≡ translation mode.now windows.now tlb.now kind at.0 }
 
-    // The address keeps its offset in 4 KiB, and is in the page, segment or frame that it should be in.
+    // The result keeps the offset in 4 KiB, and is in the segment or frame that the address leads to.
     ensures offset { IfOk result (λ to. SameOffset at.0 to.0.0) }
     ensures lies { IfOk result (λ to. LeadsTo mode.now windows.now tlb.now at.0 to.0.0) }
 
@@ -53,7 +53,7 @@ pub fn translate(
     ensures whole_page { WholePage mode.now windows.now tlb.now kind at.0 result }
 {
     match mode.translation {
-        Translation::Direct => Ok(direct(mode, kind, at)),
-        Translation::Mapped => mapped(mode, windows, tlb, kind, at),
+        TranslationMode::Direct => Ok(direct(mode, kind, at)),
+        TranslationMode::Mapped => mapped(mode, windows, tlb, kind, at),
     }
 }

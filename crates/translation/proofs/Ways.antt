@@ -6,13 +6,13 @@ use Rattle.tlb.specs.Entries.{half}
 use Rattle.tlb.specs.Searching.{entry, find}
 use Rattle.csr.specs.declared.exception.PageFault.{PageFault}
 use Rattle.csr.specs.declared.mode.Mode.{Mode}
-use Rattle.csr.specs.declared.mode.Translation.{Translation}
-use Rattle.csr.specs.declared.mode.Translation.TheVariants.{Direct, Mapped}
+use Rattle.csr.specs.declared.mode.TranslationMode.{TranslationMode}
+use Rattle.csr.specs.declared.mode.TranslationMode.TheVariants.{Direct, Mapped}
 use Rattle.csr.specs.declared.window.Window.{Window}
 use Rattle.csr.specs.declared.window.Windows.{Windows}
 use Rattle.translation.specs.Translation.{Place, direct, window_for, through_window, permission, in_page, if_permitted, through_page, through_found, by_window, mapped, by_mode, translation}
 
--- a place of each layer
+-- what is wanted of a place on each way
 pub record Ways (mode : Mode) (ws : Windows) (tlb : Tlb) (kind : AccessKind) (at : ℕ) (P : Place → Type 0) : Type 0 where
   pub direct_way : mode.translation ≡ Direct → P (direct mode kind at)
   pub window_way : (w : Window) → mode.translation ≡ Mapped → window_for ws mode.plv at ≡ Some w → P (through_window w at)
@@ -36,7 +36,7 @@ windowed mode ws tlb kind at P m ways (Some w) e = ways.window_way w m e
 windowed mode ws tlb kind at P m ways None e = found mode tlb kind at P (find tlb at mode.asid) (λ i. ways.page_way i m e)
 
 by_modes : (mode : Mode) (ws : Windows) (tlb : Tlb) (kind : AccessKind) (at : ℕ) (P : Place → Type 0) → Ways mode ws tlb kind at P
-    → (t : Translation) → mode.translation ≡ t → IfOk (by_mode t mode ws tlb kind at) P
+    → (t : TranslationMode) → mode.translation ≡ t → IfOk (by_mode t mode ws tlb kind at) P
 by_modes mode ws tlb kind at P ways Direct m = ways.direct_way m
 by_modes mode ws tlb kind at P ways Mapped m = windowed mode ws tlb kind at P m ways (window_for ws mode.plv at) refl
 
