@@ -38,10 +38,12 @@ direct_type mode Store = mode.datm
 abbrev pub direct : Mode → AccessKind → ℕ → Place
 direct mode kind at = place at (direct_type mode kind)
 
+-- the window's bit for the privilege level
 abbrev pub admits : Window → Privilege → Bool
 admits w Plv0 = w.plv0
 admits w Plv3 = w.plv3
 
+-- that bit is 1, and VSEG equals the address's bits 31:29
 abbrev pub applies : Window → Privilege → ℕ → Bool
 applies w level at = admits w level && at / 2 ^ 29 == w.vseg
 
@@ -49,9 +51,11 @@ applies w level at = admits w level && at / 2 ^ 29 == w.vseg
 abbrev pub window_for : Windows → Privilege → ℕ → Option Window
 window_for ws level at = cond (applies ws.dmw1 level at) (Some ws.dmw1) (cond (applies ws.dmw0 level at) (Some ws.dmw0) None)
 
+-- PSEG in the place of those bits
 abbrev pub through_window : Window → ℕ → Place
 through_window w at = place (w.pseg * 2 ^ 29 + at % 2 ^ 29) w.mat
 
+-- V 0, by kind of access
 abbrev pub invalid : AccessKind → PageFault
 invalid Fetch = Pif
 invalid Load = Pil
@@ -62,7 +66,7 @@ is_store Fetch = false
 is_store Load = false
 is_store Store = true
 
--- V first, then PLV, then D
+-- V first, then PLV, then D of a store
 abbrev pub permission : Half → Privilege → AccessKind → Result (Unit {0}) PageFault
 permission h level kind =
     cond (not h.valid) (Err (invalid kind))
@@ -85,6 +89,7 @@ if_permitted (Ok _) to = Ok to
 abbrev pub through_page : Entry → Privilege → AccessKind → ℕ → Result Place PageFault
 through_page e level kind at = if_permitted (permission (half e at) level kind) (in_page e.page_size (half e at) at)
 
+-- no entry that fits is TLBR
 abbrev pub through_found : Option ℕ → Mode → Tlb → AccessKind → ℕ → Result Place PageFault
 through_found None mode tlb kind at = Err Tlbr
 through_found (Some i) mode tlb kind at = through_page (entry tlb i) mode.plv kind at
@@ -92,6 +97,7 @@ through_found (Some i) mode tlb kind at = through_page (entry tlb i) mode.plv ki
 abbrev pub through_tlb : Mode → Tlb → AccessKind → ℕ → Result Place PageFault
 through_tlb mode tlb kind at = through_found (find tlb at mode.asid) mode tlb kind at
 
+-- a window before the TLB
 abbrev pub by_window : Option Window → Mode → Tlb → AccessKind → ℕ → Result Place PageFault
 by_window (Some w) mode tlb kind at = Ok (through_window w at)
 by_window None mode tlb kind at = through_tlb mode tlb kind at
