@@ -39,6 +39,12 @@ page_size = if_legal (one_of 12 21)
 abbrev pub link_bits : ℕ → ℕ → ℕ
 link_bits old new = cond (flag new 1) 0 old
 
+abbrev pub tlbelo_rows : List Row
+tlbelo_rows = (0, 0, any) ∷ (1, 1, any) ∷ (3, 2, any) ∷ (5, 4, any) ∷ (6, 6, any) ∷ (27, 8, any) ∷ []
+
+abbrev pub dmw_rows : List Row
+dmw_rows = (0, 0, any) ∷ (3, 3, any) ∷ (5, 4, any) ∷ (27, 25, any) ∷ (31, 29, any) ∷ []
+
 -- bits of no row read 0
 abbrev pub rows : Csr → List Row
 rows Crmd = (1, 0, privilege) ∷ (2, 2, any) ∷ (4, 3, mode_bits) ∷ (6, 5, any) ∷ (8, 7, any) ∷ []
@@ -51,8 +57,8 @@ rows Badv = (31, 0, any) ∷ []
 rows Eentry = (31, 6, any) ∷ []
 rows Tlbidx = (3, 0, any) ∷ (29, 24, page_size) ∷ (31, 31, any) ∷ []
 rows Tlbehi = (31, 13, any) ∷ []
-rows Tlbelo0 = (0, 0, any) ∷ (1, 1, any) ∷ (3, 2, any) ∷ (5, 4, any) ∷ (6, 6, any) ∷ (27, 8, any) ∷ []
-rows Tlbelo1 = (0, 0, any) ∷ (1, 1, any) ∷ (3, 2, any) ∷ (5, 4, any) ∷ (6, 6, any) ∷ (27, 8, any) ∷ []
+rows Tlbelo0 = tlbelo_rows
+rows Tlbelo1 = tlbelo_rows
 rows Asid = (9, 0, any) ∷ (23, 16, read_only) ∷ []
 rows Pgdl = (31, 12, any) ∷ []
 rows Pgdh = (31, 12, any) ∷ []
@@ -69,8 +75,8 @@ rows Ticlr = []
 rows Llbctl = (1, 0, link_bits) ∷ []
 rows Tlbrentry = (31, 6, any) ∷ []
 rows Ctag = []
-rows Dmw0 = (0, 0, any) ∷ (3, 3, any) ∷ (5, 4, any) ∷ (27, 25, any) ∷ (31, 29, any) ∷ []
-rows Dmw1 = (0, 0, any) ∷ (3, 3, any) ∷ (5, 4, any) ∷ (27, 25, any) ∷ (31, 29, any) ∷ []
+rows Dmw0 = dmw_rows
+rows Dmw1 = dmw_rows
 
 abbrev pub row_after : Row → ℕ → ℕ → ℕ
 row_after row old word =
@@ -89,8 +95,7 @@ ReadFits r Asid = r.mode.asid < 2 ^ 10
 ReadFits r Pgd = (pgd r).0 < 2 ^ 20
 ReadFits r _ = Unit {0}
 
--- the law of reading back: a register that is written reads, field by field, what was written there, or what is left of what it read;
--- a number that names no register changes nothing
+-- the law of reading back: a register that was written reads as its rows say; a number that names none changes nothing
 abbrev pub ReadsBack : Registers → Registers → Option Csr → ℕ → Type 0
 ReadsBack old new None word = new ≡ old
 ReadsBack old new (Some csr) word = read_of new csr ≡ read_back (rows csr) (read_of old csr) word

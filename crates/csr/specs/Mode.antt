@@ -1,6 +1,6 @@
 -- CRMD, ASID and PRMD by their fields, and what an exception and a return do to the mode.
-use Rattle.std.specs.Prelude.{ℕ, ◌+◌, ◌*◌, ◌^◌, Bool, true, false, cond, ◌==◌}
-use Rattle.pages.specs.declared.privilege.Privilege.TheVariants.{Plv0, Plv3}
+use Rattle.std.specs.Prelude.{ℕ, ◌+◌, ◌*◌, ◌^◌, false, cond, ◌==◌}
+use Rattle.pages.specs.declared.privilege.Privilege.TheVariants.{Plv0}
 use Rattle.pages.specs.Kinds.{plv, plv_written}
 use Rattle.csr.specs.declared.exception.Cause.{Cause}
 use Rattle.csr.specs.declared.mode.TranslationMode.{TranslationMode}

@@ -1,8 +1,7 @@
 -- Addresses of the same 4 KiB are found by the same entry, and are in the same of its two pages.
-use Rattle.std.proofs.Common.{◌≡◌, ℕ, ◌+◌, ◌/◌, ◌^◌, Bool, cond, ◌==◌, ◌&&◌, ◌||◌, List, [], ◌∷◌, Some, None, Option, refl, ap, ◌∙◌, arith}
+use Rattle.std.proofs.Common.{◌≡◌, ℕ, ◌+◌, ◌/◌, ◌^◌, cond, ◌==◌, ◌&&◌, ◌||◌, List, [], ◌∷◌, Some, refl, ap, ◌∙◌, arith}
 use Rattle.pages.specs.declared.page_size.PageSize.{PageSize}
 use Rattle.pages.specs.declared.page_size.PageSize.TheVariants.{Small, Large}
-use Rattle.pages.specs.declared.half.Half.{Half}
 use Rattle.tlb.specs.declared.entry.Entry.{Entry}
 use Rattle.tlb.specs.Entries.{same_pair, fits, odd, half}
 use Rattle.tlb.specs.Searching.{find_from}

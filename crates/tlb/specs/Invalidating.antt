@@ -1,5 +1,5 @@
 -- Which entries an invalidation empties, and what it leaves of the TLB.
-use Rattle.std.specs.Prelude.{ℕ, Bool, true, false, cond, not, ◌==◌, ◌&&◌, ◌||◌, Some, None, Option, map}
+use Rattle.std.specs.Prelude.{ℕ, Bool, true, false, cond, not, ◌==◌, ◌&&◌, Some, None, Option, map}
 use Rattle.pages.specs.declared.address.VirtAddr.{VirtAddr}
 use Rattle.tlb.specs.declared.entry.Entry.{Entry}
 use Rattle.tlb.specs.declared.invalidation.Invalidation.{Invalidation}
