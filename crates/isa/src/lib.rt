@@ -16,4 +16,5 @@ pub use instruction::{
     UpperOp,
 };
 pub use least_register::RegFrom;
+pub use privilege::is_hit;
 pub use register::Reg;

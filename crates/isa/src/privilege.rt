@@ -6,7 +6,7 @@ use crate::field::Field;
 use crate::instruction::Instruction;
 
 // Whether a CACOP is of the Hit kind.
-fn is_hit(code: Field<5>) -> bool
+pub fn is_hit(code: Field<5>) -> bool
     ensures { result ≡ hit code }
 {
     code.value() / 8 == 2

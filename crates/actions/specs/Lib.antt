@@ -1,0 +1,4 @@
+pub mod Registers
+pub mod User
+pub mod Addresses
+pub mod Plan
