@@ -1,0 +1,41 @@
+-- A run, step by step.
+use Rattle.std.proofs.Common.{◌≡◌, ℕ, suc, ◌+◌, ◌-◌, ◌<◌, Some, Ok, Err, refl, sym, ap, ◌∙◌, arith}
+use Rattle.bus.specs.Memory.{Memory}
+use Rattle.machine.specs.declared.answers.Event.{Event}
+use Rattle.machine.specs.declared.answers.RunReport.{RunReport}
+use Rattle.machine.specs.declared.answers.StepRefusal.{StepRefusal}
+use Rattle.machine.specs.declared.state.State.{State}
+use Rattle.machine.specs.Outcomes.{Outcome, outcome, StepAnswer}
+use Rattle.machine.specs.Step.{step, ran_on, run_of}
+
+-- a run of which k steps were made before
+abbrev pub further : ℕ → Outcome RunReport → Outcome RunReport
+further k o = record o { answer = record o.answer { steps = k + o.answer.steps } }
+
+further_suc : (k : ℕ) (o : Outcome RunReport) → further (k + 1) o ≡ further k (record o { answer = record o.answer { steps = suc o.answer.steps } })
+further_suc k o =
+    let more : (k + 1) + o.answer.steps ≡ k + suc o.answer.steps = omega arith in
+    ap (λ n. record o { answer = record o.answer { steps = n } }) more
+
+run_at : (count k levels : ℕ) (s : State) (m : Memory) → k < count → run_of (count - k) levels s m ≡ run_of (suc (count - (k + 1))) levels s m
+run_at count k levels s m l =
+    let e : count - k ≡ suc (count - (k + 1)) = omega arith in
+    ap (λ n. run_of n levels s m) e
+
+-- what is left after one accepted step more
+pub one_more : (count k levels : ℕ) (s t : State) (m n : Memory) (e : Event) → k < count → outcome (Ok e) t n ≡ step s levels m
+    → further (k + 1) (run_of (count - (k + 1)) levels t n) ≡ further k (run_of (count - k) levels s m)
+one_more count k levels s t m n e l is =
+    let left = count - (k + 1) in
+    further_suc k (run_of left levels t n)
+    ∙ ap (λ o. further k (ran_on o.answer o (run_of left levels o.state o.memory))) is
+    ∙ sym (ap (further k) (run_at count k levels s m l))
+
+pub cut_short : (count k levels : ℕ) (s t : State) (m n : Memory) (e : StepRefusal) → k < count → outcome (Err e) t n ≡ step s levels m
+    → outcome (record { steps = k; refusal = Some e }) t n ≡ further k (run_of (count - k) levels s m)
+cut_short count k levels s t m n e l is =
+    let left = count - (k + 1) in
+    let none : k ≡ k + 0 = omega arith in
+    ap (λ j. outcome (record { steps = j; refusal = Some e }) t n) none
+    ∙ ap (λ o. further k (ran_on o.answer o (run_of left levels o.state o.memory))) is
+    ∙ sym (ap (further k) (run_at count k levels s m l))

@@ -1,0 +1,13 @@
+//! The core: reset, step, run, read-outs and closing, on any bus.
+#![tactic(auto)]
+
+mod access;
+pub mod answers;
+mod exceptions;
+mod execution;
+mod loads_and_stores;
+pub mod state;
+mod stepping;
+mod supervision;
+
+pub use answers::{CallRefusal, Event, RunReport, StepRefusal};

@@ -1,0 +1,133 @@
+// Loads and stores: alignment, then translation, then the bus.
+ghost use Rattle.std.specs.Prelude.{◌≡◌};
+ghost use Rattle.pages.specs.declared.access_kind.AccessKind.TheVariants.{Load, Store};
+ghost use Rattle.operations.specs.Operations.{load_width, store_width};
+ghost use Rattle.machine.specs.Outcomes.{settled, outcome, at_place};
+ghost use Rattle.machine.specs.Access.{locate};
+ghost use Rattle.machine.specs.Accesses.{load_from, store_to, load_linked_from, store_conditional_to, probe};
+
+use crate::answers::{Event, StepRefusal};
+use crate::state::State;
+use bus::{Access, Bus, Refusal};
+use isa::{LoadOp, Reg, StoreOp};
+use operations::{load_result, load_width, store_width};
+use pages::{AccessKind, VirtAddr};
+
+impl State {
+    pub(crate) fn refusal(&self, kind: AccessKind, by_bus: Refusal) -> StepRefusal
+        ensures { result ≡ record { by_bus = by_bus; kind = kind; pc = self.now.user.pc } }
+    {
+        StepRefusal {
+            by_bus,
+            kind,
+            pc: self.user.pc,
+        }
+    }
+
+    pub(crate) fn load<B: Bus>(
+        &mut self,
+        bus: &mut B,
+        op: LoadOp,
+        rd: Reg,
+        at: VirtAddr,
+    ) -> Result<Event, StepRefusal>
+        ensures value { outcome result self.new (B.byte bus.new) ≡ at_place self.old (B.byte bus.old) (load_from self.old (B.byte bus.old) op rd) (locate self.old Load (load_width op) at) }
+        ensures kept { B.layout bus.new ≡ B.layout bus.old }
+    {
+        let width = load_width(op);
+        match self.locate(AccessKind::Load, width, at) {
+            Ok(place) => match bus.read(Access::new(place, width)) {
+                Ok(value) => {
+                    self.give(rd, load_result(op, value));
+                    Ok(Event::Done)
+                }
+                Err(by_bus) => Err(self.refusal(AccessKind::Load, by_bus)),
+            },
+            Err(exception) => Ok(self.raise(exception)),
+        }
+    }
+
+    pub(crate) fn store<B: Bus>(
+        &mut self,
+        bus: &mut B,
+        op: StoreOp,
+        at: VirtAddr,
+        value: u32,
+    ) -> Result<Event, StepRefusal>
+        ensures value { outcome result self.new (B.byte bus.new) ≡ at_place self.old (B.byte bus.old) (store_to self.old (B.byte bus.old) op value) (locate self.old Store (store_width op) at) }
+        ensures kept { B.layout bus.new ≡ B.layout bus.old }
+    {
+        let width = store_width(op);
+        match self.locate(AccessKind::Store, width, at) {
+            Ok(place) => match bus.write(Access::new(place, width), value) {
+                Ok(()) => {
+                    self.go_on();
+                    Ok(Event::Done)
+                }
+                Err(by_bus) => Err(self.refusal(AccessKind::Store, by_bus)),
+            },
+            Err(exception) => Ok(self.raise(exception)),
+        }
+    }
+
+    // LL.W
+    pub(crate) fn load_linked<B: Bus>(
+        &mut self,
+        bus: &mut B,
+        rd: Reg,
+        at: VirtAddr,
+    ) -> Result<Event, StepRefusal>
+        ensures value { outcome result self.new (B.byte bus.new) ≡ at_place self.old (B.byte bus.old) (load_linked_from self.old (B.byte bus.old) rd) (locate self.old Load 4 at) }
+        ensures kept { B.layout bus.new ≡ B.layout bus.old }
+    {
+        match self.locate(AccessKind::Load, 4, at) {
+            Ok(place) => match bus.read(Access::new(place, 4)) {
+                Ok(value) => {
+                    self.give(rd, value);
+                    self.registers.link = true;
+                    Ok(Event::Done)
+                }
+                Err(by_bus) => Err(self.refusal(AccessKind::Load, by_bus)),
+            },
+            Err(exception) => Ok(self.raise(exception)),
+        }
+    }
+
+    // SC.W: its address is checked whatever the link.
+    pub(crate) fn store_conditional<B: Bus>(
+        &mut self,
+        bus: &mut B,
+        rd: Reg,
+        at: VirtAddr,
+        value: u32,
+    ) -> Result<Event, StepRefusal>
+        ensures value { outcome result self.new (B.byte bus.new) ≡ at_place self.old (B.byte bus.old) (store_conditional_to self.old (B.byte bus.old) rd value self.old.registers.link) (locate self.old Store 4 at) }
+        ensures kept { B.layout bus.new ≡ B.layout bus.old }
+    {
+        match self.locate(AccessKind::Store, 4, at) {
+            Ok(place) => {
+                let link = self.registers.link;
+                if link && let Err(by_bus) = bus.write(Access::new(place, 4), value) {
+                    return Err(self.refusal(AccessKind::Store, by_bus));
+                }
+                self.give(rd, u32::from(link));
+                self.registers.link = false;
+                Ok(Event::Done)
+            }
+            Err(exception) => Ok(self.raise(exception)),
+        }
+    }
+
+    // A CACOP of the Hit kind.
+    pub(crate) fn probe(&mut self, at: VirtAddr) -> Event
+        ensures { settled result self.new ≡ probe self.old (locate self.old Load 1 at) }
+    {
+        match self.locate(AccessKind::Load, 1, at) {
+            Ok(_) => {
+                self.go_on();
+                Event::Done
+            }
+            Err(exception) => self.raise(exception),
+        }
+    }
+}

@@ -1,0 +1,52 @@
+// The state of a core that was reset.
+ghost use Rattle.std.specs.Prelude.{◌≡◌};
+ghost use Rattle.machine.specs.State.{reset_state, onward, with_result};
+
+use actions::UserState;
+use control::Registers;
+use isa::Reg;
+use tlb::Tlb;
+
+// Whether the core goes on with the next instruction, or waits for an interrupt.
+#[derive(Clone, Copy, PartialEq, Eq, Debug)]
+pub enum Activity {
+    Running,
+    Waiting,
+}
+
+#[derive(PartialEq, Eq, Debug)]
+pub struct State {
+    pub(crate) user: UserState,
+    pub(crate) registers: Registers,
+    pub(crate) tlb: Tlb,
+    pub(crate) activity: Activity,
+}
+
+impl State {
+    // As reset leaves it.
+    pub(crate) fn new() -> State
+        ensures { result ≡ reset_state }
+    {
+        State {
+            user: UserState::new(),
+            registers: Registers::new(),
+            tlb: Tlb::new(),
+            activity: Activity::Running,
+        }
+    }
+
+    // The next instruction follows.
+    pub(crate) fn go_on(&mut self)
+        ensures { self.new ≡ onward self.old }
+    {
+        self.user.pc = self.user.next_pc();
+    }
+
+    // GR[rd] gets the value, and the next instruction follows.
+    pub(crate) fn give(&mut self, rd: Reg, value: u32)
+        ensures { self.new ≡ with_result self.old rd value }
+    {
+        let next = self.user.next_pc();
+        self.user.write(rd, value, next);
+    }
+}
