@@ -5,7 +5,7 @@ ghost use Rattle.actions.specs.Registers.{reset_registers, gr, with_gr, link_reg
 use isa::Reg;
 use std::marker::Model;
 
-#[derive(PartialEq, Eq, Debug)]
+#[derive(PartialEq, Eq, Debug, Drop)]
 pub struct GeneralRegisters {
     values: [u32; 32],
 }

@@ -7,7 +7,7 @@ use isa::Reg;
 use pages::VirtAddr;
 use word::add;
 
-#[derive(PartialEq, Eq, Debug)]
+#[derive(PartialEq, Eq, Debug, Drop)]
 pub struct UserState {
     pub pc: VirtAddr,
     pub general: GeneralRegisters,

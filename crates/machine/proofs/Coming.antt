@@ -47,14 +47,14 @@ pub data Came (s : State) (m : Memory) : Outcome StepAnswer → Type 0 where
   unwritten : (at : VirtAddr) (place : PhysAddr) (w v : ℕ) (e : Refusal) → is_width w ≡ true
       → locate s kind.Store w at ≡ Ok place → write_of m place.0 w v ≡ Err e → Came s m (refused s kind.Store e m)
 
-load_is_width : (op : LoadOp) → is_width (load_width op) ≡ true
+pub load_is_width : (op : LoadOp) → is_width (load_width op) ≡ true
 load_is_width LdB = refl
 load_is_width LdH = refl
 load_is_width LdW = refl
 load_is_width LdBu = refl
 load_is_width LdHu = refl
 
-store_is_width : (op : StoreOp) → is_width (store_width op) ≡ true
+pub store_is_width : (op : StoreOp) → is_width (store_width op) ≡ true
 store_is_width StB = refl
 store_is_width StH = refl
 store_is_width StW = refl

@@ -1,3 +1,10 @@
 pub mod Coming
 pub mod Steps
 pub mod Runs
+pub mod Bytes
+pub mod Reaching
+pub mod Confining
+pub mod Alikes
+pub mod Lawful
+pub mod Counting
+pub mod RunLaws

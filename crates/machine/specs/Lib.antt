@@ -6,3 +6,6 @@ pub mod Supervision
 pub mod Accesses
 pub mod Execution
 pub mod Step
+pub mod Isolation
+pub mod Calls
+pub mod Laws

@@ -14,7 +14,7 @@ pub enum Activity {
     Waiting,
 }
 
-#[derive(PartialEq, Eq, Debug)]
+#[derive(PartialEq, Eq, Debug, Drop)]
 pub struct State {
     pub(crate) user: UserState,
     pub(crate) registers: Registers,

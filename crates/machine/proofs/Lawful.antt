@@ -1,0 +1,199 @@
+-- The laws of a step.
+use Rattle.std.proofs.Common.{◌≡◌, ℕ, zero, suc, ◌%◌, ◌^◌, Bool, true, false, ◌&&◌, ◌==◌, ◌⊎◌, inl, inr, Some, None, Option, Ok, Err, Result, IfOk, IfErr, refl, sym, ap, subst, ◌∙◌, arith, eqb}
+use Rattle.std.proofs.lemmas.Bool.{cond-true, cond_both, both_ways, and_from, and_parts, eq-eqb}
+use Rattle.bus.specs.declared.address.PhysAddr.{PhysAddr}
+use Rattle.bus.specs.declared.refusal.Refusal.{Refusal}
+use Rattle.bus.specs.declared.refusal.Refusal.TheVariants.{Misaligned, Absent, Fixed}
+use Rattle.bus.specs.Cell.{Cell}
+use Rattle.bus.specs.Memory.{Memory, address, is_width, aligned, is_absent, is_fixed, unless_any, value_at, read_of, write_of, put}
+use Rattle.bus.specs.Refusals.{refusal_number}
+use Rattle.isa.specs.declared.instruction.TlbOp.{TlbOp}
+use Rattle.pages.specs.declared.address.VirtAddr.{VirtAddr}
+use Rattle.pages.specs.declared.access_kind.AccessKind.{AccessKind}
+use Rattle.pages.specs.declared.access_kind.AccessKind.TheVariants as kind
+use Rattle.tlb.specs.declared.invalidation.Invalidation.{Invalidation}
+use Rattle.tlb.specs.Invalidating.{numbered}
+use Rattle.csr.specs.declared.exception.Cause.TheVariants as cause
+use Rattle.csr.specs.declared.exception.Exception.{Exception}
+use Rattle.csr.specs.declared.exception.PageFault.{PageFault}
+use Rattle.csr.specs.Interrupts.{due}
+use Rattle.control.specs.Exceptions.{interrupted}
+use Rattle.translation.specs.Translation.{Place}
+use Rattle.translation.specs.Laws.{SameOffset}
+use Rattle.translation.proofs.Lying.{same_offset}
+use Rattle.actions.specs.declared.action.PrivilegedAction.{PrivilegedAction}
+use Rattle.actions.specs.declared.action.PrivilegedAction.TheVariants.{Csrrd, Csrwr, Csrxchg, Tlb, Invtlb, Ertn, Idle, Cacop}
+use Rattle.actions.specs.User.{virtual}
+use Rattle.machine.specs.declared.answers.Event.TheVariants as event
+use Rattle.machine.specs.declared.answers.StepRefusal.{StepRefusal}
+use Rattle.machine.specs.declared.state.Activity.{Activity}
+use Rattle.machine.specs.declared.state.Activity.TheVariants.{Running, Waiting}
+use Rattle.machine.specs.declared.state.State.{State}
+use Rattle.machine.specs.Access.{locate}
+use Rattle.machine.specs.Outcomes.{Outcome, outcome, StepAnswer, unasked}
+use Rattle.machine.specs.Supervision.{invalidate, supervise}
+use Rattle.machine.specs.Execution.{by_interrupt, execute}
+use Rattle.machine.specs.Step.{at_levels, keeps_waiting, awake, by_waiting, acted, ended, step}
+use Rattle.machine.specs.Isolation.{Asks, by_fetch, by_access, StepIsolated, Confined}
+use Rattle.machine.specs.Laws.{Refused, IfException, HandlerBegins, InterruptTaken}
+use Rattle.machine.proofs.Coming.{Came, raises, goes, supervises, writes, unread, unwritten, execute_came}
+use Rattle.machine.proofs.Reaching.{word_of, Located, located, wide}
+use Rattle.machine.proofs.Confining.{confined}
+use Rattle.machine.proofs.Alikes.{step_isolated}
+
+abbrev EightOrNine : Refusal → Type 0
+EightOrNine e = (refusal_number e ≡ 8) ⊎ (refusal_number e ≡ 9)
+
+abbrev Expected : {X : Type 0} → Result X Refusal → Type 0
+Expected r = IfErr r EightOrNine
+
+scan_expected : {X : Type 0} (m : Memory) (p : Cell → Bool) (to : PhysAddr → Refusal) → ((y : PhysAddr) → EightOrNine (to y)) → (a w : ℕ)
+    → (r : Result X Refusal) → Expected r → Expected (unless_any p to m a w r)
+scan_expected m p to h a zero r expected = expected
+scan_expected m p to h a (suc w) r expected =
+    cond_both (p (m a)) _ _ Expected (λ _. h (address a)) (λ _. scan_expected m p to h (suc a) w r expected)
+
+read_expected : (m : Memory) (a w : ℕ) → aligned a w ≡ true → Expected (read_of m a w)
+read_expected m a w fit =
+    subst Expected (sym (cond-true (aligned a w) _ _ fit)) (scan_expected m is_absent Absent (λ y. inl refl) a w (Ok (value_at m a w)) tt)
+
+write_expected : (m : Memory) (a w v : ℕ) → aligned a w ≡ true → Expected (write_of m a w v)
+write_expected m a w v fit =
+    subst Expected (sym (cond-true (aligned a w) _ _ fit))
+    (scan_expected m is_absent Absent (λ y. inl refl) a w _ (scan_expected m is_fixed Fixed (λ y. inr refl) a w (Ok (put m a w v)) tt))
+
+same_multiple : (p at w : ℕ) → (w ≡ 1) ⊎ ((w ≡ 2) ⊎ (w ≡ 4)) → p % 2 ^ 12 ≡ at % 2 ^ 12 → at % w ≡ 0 → p % w ≡ 0
+same_multiple p at w (inl one) same even = subst (λ (n : ℕ). p % n ≡ 0) (sym one) (omega arith)
+same_multiple p at w (inr (inl two)) same even =
+    let here : at % 2 ≡ 0 = subst (λ (n : ℕ). at % n ≡ 0) two even in
+    subst (λ (n : ℕ). p % n ≡ 0) (sym two) (omega arith)
+same_multiple p at w (inr (inr four)) same even =
+    let here : at % 4 ≡ 0 = subst (λ (n : ℕ). at % n ≡ 0) four even in
+    subst (λ (n : ℕ). p % n ≡ 0) (sym four) (omega arith)
+
+-- where an access leads it is aligned
+place_aligned : (s : State) (k : AccessKind) (w : ℕ) (at : VirtAddr) (to : PhysAddr) → is_width w ≡ true → locate s k w at ≡ Ok to → aligned to.0 w ≡ true
+place_aligned s k w at to is_wide is =
+    let found : Located s k w at to = located s k w at to is in
+    let same : SameOffset (word_of at) to.0
+    = subst (λ (r : Result Place PageFault). IfOk r (λ p. SameOffset (word_of at) p.0.0)) found.leads
+    (same_offset s.registers.mode s.registers.windows s.tlb k (word_of at)) in
+    and_from (is_width w) (eqb (to.0 % w) 0) is_wide (eq-eqb (to.0 % w) 0 (same_multiple to.0 (word_of at) w (wide w is_wide) same found.aligned))
+
+module _ (s : State) (levels : ℕ) (m : Memory) where
+  abbrev RefusedBy : Outcome StepAnswer → Type 0
+  RefusedBy o = IfErr o.answer (λ e. Refused s m e o.state o.memory)
+
+  expected : (r : Result ℕ Refusal) (e : Refusal) → Expected r → r ≡ Err e → EightOrNine e
+  expected r e h is = subst Expected is h
+
+  expected_write : (r : Result Memory Refusal) (e : Refusal) → Expected r → r ≡ Err e → EightOrNine e
+  expected_write r e h is = subst Expected is h
+
+  came_refused : (o : Outcome StepAnswer) → Came (awake (at_levels s levels)) m o → RefusedBy (ended s m o.answer o)
+  came_refused o (raises e) = tt
+  came_refused o (goes u link) = tt
+  came_refused o (supervises action level) = tt
+  came_refused o (writes u link at place w v n is_wide to put_is) = tt
+  came_refused o (unread k at place w e is_wide to got) = record {
+    number = expected (read_of m place.0 w) e (read_expected m place.0 w (place_aligned s k w at place is_wide to)) got;
+    pc = refl;
+    state = refl;
+    memory = refl;
+  }
+  came_refused o (unwritten at place w v e is_wide to put_is) = record {
+    number = expected_write (write_of m place.0 w v) e (write_expected m place.0 w v (place_aligned s kind.Store w at place is_wide to)) put_is;
+    pc = refl;
+    state = refl;
+    memory = refl;
+  }
+
+  waiting_refused : (waits : Bool) → RefusedBy (ended s m (by_waiting waits (at_levels s levels) m).answer (by_waiting waits (at_levels s levels) m))
+  waiting_refused true = tt
+  waiting_refused false = came_refused (execute (awake (at_levels s levels)) m) (execute_came (awake (at_levels s levels)) m)
+
+  refused_by : RefusedBy (step s levels m)
+  unfolding step
+  refused_by = waiting_refused (keeps_waiting s.activity (due (at_levels s levels).registers.interrupts))
+
+  abbrev Handled : Outcome StepAnswer → Type 0
+  Handled o = IfException o.answer (HandlerBegins s o.state)
+
+  abbrev EndHandled : Outcome StepAnswer → Type 0
+  EndHandled o = Handled (ended s m o.answer o)
+
+  invalidate_handled : (which : Option Invalidation) → EndHandled (unasked (invalidate (awake (at_levels s levels)) which) m)
+  invalidate_handled (Some which) = tt
+  invalidate_handled None = record { plv = refl; ie = refl; era = refl }
+
+  supervise_handled : (action : PrivilegedAction) → EndHandled (unasked (supervise (awake (at_levels s levels)) action) m)
+  supervise_handled (Csrrd rd csr) = tt
+  supervise_handled (Csrwr rd csr value) = tt
+  supervise_handled (Csrxchg rd csr value mask) = tt
+  supervise_handled (Tlb op) = tt
+  supervise_handled (Invtlb op rj rk) = invalidate_handled (numbered op (rj % 2 ^ 10) (virtual rk))
+  supervise_handled Ertn = tt
+  supervise_handled Idle = tt
+  supervise_handled Cacop = tt
+
+  came_handled : (o : Outcome StepAnswer) → Came (awake (at_levels s levels)) m o → EndHandled o
+  came_handled o (raises e) = record { plv = refl; ie = refl; era = refl }
+  came_handled o (goes u link) = tt
+  came_handled o (supervises action level) = supervise_handled action
+  came_handled o (writes u link at place w v n is_wide to put_is) = tt
+  came_handled o (unread k at place w e is_wide to got) = tt
+  came_handled o (unwritten at place w v e is_wide to put_is) = tt
+
+  waiting_handled : (waits : Bool) → EndHandled (by_waiting waits (at_levels s levels) m)
+  waiting_handled true = tt
+  waiting_handled false = came_handled (execute (awake (at_levels s levels)) m) (execute_came (awake (at_levels s levels)) m)
+
+  handled : Handled (step s levels m)
+  unfolding step
+  handled = waiting_handled (keeps_waiting s.activity (due (at_levels s levels).registers.interrupts))
+
+  module _ (taken : interrupted (at_levels s levels).registers ≡ true) where
+    contrary : interrupted (at_levels s levels).registers ≡ false → ⊥
+    contrary free = both_ways (interrupted (at_levels s levels).registers) free taken
+
+    nothing_asked : (x : ℕ) → Asks s levels m x → ⊥
+    nothing_asked x (by_fetch from fetches names) = contrary fetches.undisturbed
+    nothing_asked x (by_access action k w at to does accesses leads names) = contrary does.fetches.undisturbed
+
+    acts_at_once : (activity : Activity) (due_now : Bool) → due_now ≡ true → keeps_waiting activity due_now ≡ false
+    acts_at_once Running due_now is = refl
+    acts_at_once Waiting true is = refl
+    acts_at_once Waiting false is = sym is
+
+    interrupt_acts : acted s levels m ≡ by_interrupt true (awake (at_levels s levels)) m
+    interrupt_acts =
+        let parts = and_parts (at_levels s levels).registers.mode.ie (due (at_levels s levels).registers.interrupts) taken in
+        ap (λ waits. by_waiting waits (at_levels s levels) m) (acts_at_once s.activity (due (at_levels s levels).registers.interrupts) parts.1)
+        ∙ ap (λ is. by_interrupt is (awake (at_levels s levels)) m) taken
+
+    interrupt_taken : InterruptTaken s levels m (step s levels m)
+    unfolding step
+    interrupt_taken = record {
+      answer = ap (λ (o : Outcome StepAnswer). (ended s m o.answer o).answer) interrupt_acts;
+      asks_nothing = nothing_asked;
+      memory = ap (λ (o : Outcome StepAnswer). (ended s m o.answer o).memory) interrupt_acts;
+    }
+
+-- all that is promised of a step
+pub record Lawful (s : State) (levels : ℕ) (m : Memory) (o : Outcome StepAnswer) : Type 0 where
+  pub refused : IfErr o.answer (λ e. Refused s m e o.state o.memory)
+  pub exception : IfException o.answer (HandlerBegins s o.state)
+  pub interrupt : interrupted (at_levels s levels).registers ≡ true → InterruptTaken s levels m o
+  pub isolated : StepIsolated s levels m o
+  pub confined : Confined s m o
+
+pub lawful : (s t : State) (levels : ℕ) (m : Memory) (o : Outcome StepAnswer) → t ≡ s → o ≡ step t levels m → Lawful s levels m o
+lawful s t levels m o same is =
+    let here : o ≡ step s levels m = is ∙ ap (λ (u : State). step u levels m) same in
+    subst (Lawful s levels m) (sym here) (record {
+      refused = refused_by s levels m;
+      exception = handled s levels m;
+      interrupt = interrupt_taken s levels m;
+      isolated = step_isolated s levels m;
+      confined = confined s levels m;
+    })

@@ -1,0 +1,18 @@
+use Rattle.machine.proofs.Confining.{confined}
+use Rattle.machine.proofs.RunLaws.{lawful}
+use Rattle.machine.proofs.stages.RunningCore.run.Goals as goal
+
+pub returns-then-count-gt-MOST_STEPS-clause-confined : goal.returns-then-count-gt-MOST_STEPS-clause-confined
+returns-then-count-gt-MOST_STEPS-clause-confined g c = λ s m performs. confined s c.args.levels m
+
+pub returns-clause-counter : goal.returns-clause-counter
+returns-clause-counter g c = (lawful c.args.count c.args.levels c.args.self.now _ (g.B.Bus.byte c.args.bus.now) _ c.self.view_is c.run.ensures.value).counted
+
+pub returns-clause-splits : goal.returns-clause-splits
+returns-clause-splits g c = (lawful c.args.count c.args.levels c.args.self.now _ (g.B.Bus.byte c.args.bus.now) _ c.self.view_is c.run.ensures.value).splits
+
+pub returns-clause-isolated : goal.returns-clause-isolated
+returns-clause-isolated g c = (lawful c.args.count c.args.levels c.args.self.now _ (g.B.Bus.byte c.args.bus.now) _ c.self.view_is c.run.ensures.value).isolated
+
+pub returns-clause-confined : goal.returns-clause-confined
+returns-clause-confined g c = λ s m performs. confined s c.args.levels m

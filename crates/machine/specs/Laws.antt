@@ -1,0 +1,69 @@
+-- Laws of steps and runs.
+use Rattle.std.specs.Prelude.{◌≡◌, ℕ, suc, ◌+◌, Bool, false, ◌⊎◌, Some, None, Option, Ok, Err}
+use Rattle.bus.specs.Memory.{Memory}
+use Rattle.pages.specs.declared.privilege.Privilege.TheVariants.{Plv0}
+use Rattle.csr.specs.declared.exception.Cause.TheVariants as cause
+use Rattle.machine.specs.declared.answers.Event.{Event}
+use Rattle.machine.specs.declared.answers.Event.TheVariants.{Done, Waiting, Exception}
+use Rattle.machine.specs.declared.answers.RunReport.{RunReport}
+use Rattle.machine.specs.declared.answers.StepRefusal.{StepRefusal}
+use Rattle.machine.specs.declared.state.State.{State}
+use Rattle.machine.specs.Answers.{step_refusal_number}
+use Rattle.machine.specs.Isolation.{Asks, Withheld, Agree, Alike}
+use Rattle.machine.specs.Outcomes.{Outcome, outcome, StepAnswer}
+use Rattle.machine.specs.Step.{step, run_of}
+
+-- a refused step was refused by the bus, with 8 or 9, and leaves core and memory as they were
+pub record Refused (s : State) (m : Memory) (e : StepRefusal) (t : State) (n : Memory) : Type 0 where
+  pub number : (step_refusal_number e ≡ 8) ⊎ (step_refusal_number e ≡ 9)
+  pub pc : e.pc ≡ s.user.pc
+  pub state : t ≡ s
+  pub memory : n ≡ m
+
+abbrev pub IfExceptionEvent : Event → Type 0 → Type 0
+IfExceptionEvent Done P = Unit {0}
+IfExceptionEvent Waiting P = Unit {0}
+IfExceptionEvent (Exception cause) P = P
+
+abbrev pub IfException : StepAnswer → Type 0 → Type 0
+IfException (Ok e) P = IfExceptionEvent e P
+IfException (Err e) P = Unit {0}
+
+-- t, as an exception that was taken in s leaves the core
+pub record HandlerBegins (s t : State) : Type 0 where
+  pub plv : t.registers.mode.plv ≡ Plv0
+  pub ie : t.registers.mode.ie ≡ false
+  pub era : t.registers.era ≡ s.user.pc
+
+pub record InterruptTaken (s : State) (levels : ℕ) (m : Memory) (o : Outcome StepAnswer) : Type 0 where
+  pub answer : o.answer ≡ Ok (Exception cause.Int)
+  pub asks_nothing : (x : ℕ) → Asks s levels m x → ⊥
+  pub memory : o.memory ≡ m
+
+-- a run of k steps that was not cut short, and then a run from there; one that was cut short ends the whole
+abbrev pub go_on : ℕ → Option StepRefusal → Outcome RunReport → Outcome RunReport → Outcome RunReport
+go_on k None first rest = record rest { answer = record rest.answer { steps = k + rest.answer.steps } }
+go_on k (Some e) first rest = first
+
+abbrev pub after : Outcome RunReport → (State → Memory → Outcome RunReport) → Outcome RunReport
+after first rest = go_on first.answer.steps first.answer.refusal first (rest first.state first.memory)
+
+-- a run of a + b steps is a run of a, and then one of b
+abbrev pub Splits : ℕ → ℕ → State → Memory → Outcome RunReport → Type 0
+Splits count levels s m whole = (a b : ℕ) → count ≡ a + b → whole ≡ after (run_of a levels s m) (run_of b levels)
+
+-- a run of up to so many steps makes the machine begin a step in that core and memory
+pub data RunPerforms (levels : ℕ) : ℕ → State → Memory → State → Memory → Type 0 where
+  first : {n : ℕ} {s : State} {m : Memory} → RunPerforms levels (suc n) s m s m
+  later : {n : ℕ} {s t : State} {m k : Memory} (e : Event) → (step s levels m).answer ≡ Ok e
+      → RunPerforms levels n (step s levels m).state (step s levels m).memory t k → RunPerforms levels (suc n) s m t k
+
+-- bytes are withheld from each step that the run performs
+abbrev pub RunWithheld : (ℕ → Bool) → ℕ → ℕ → State → Memory → Type 0
+RunWithheld withheld count levels s m = (t : State) (k : Memory) → RunPerforms levels count s m t k → Withheld withheld t levels k
+
+-- whatever bytes are withheld from a run, it is alike on every memory that agrees on the others
+abbrev pub RunIsolated : ℕ → ℕ → State → Memory → Outcome RunReport → Type 0
+RunIsolated count levels s m left =
+    (withheld : ℕ → Bool) (n : Memory) → Agree withheld m n → RunWithheld withheld count levels s m
+    → Alike withheld m n left (run_of count levels s n)

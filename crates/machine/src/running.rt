@@ -1,0 +1,62 @@
+// Steps and runs of a running core.
+ghost use Rattle.std.specs.Prelude.{◌≡◌, ℕ, ◌+◌, ◌%◌, ◌^◌, true, IfOk, IfErr};
+ghost use Rattle.bus.specs.Memory.{Memory};
+ghost use Rattle.control.specs.Exceptions.{interrupted};
+ghost use Rattle.machine.specs.declared.state.State.{State as TheState};
+ghost use Rattle.machine.specs.Outcomes.{outcome};
+ghost use Rattle.machine.specs.Step.{at_levels, step};
+ghost use Rattle.machine.specs.Calls.{run};
+ghost use Rattle.machine.specs.Isolation.{StepIsolated, Confined};
+ghost use Rattle.machine.specs.Laws.{Refused, IfException, HandlerBegins, InterruptTaken, Splits, RunPerforms, RunIsolated};
+
+use crate::answers::{CallRefusal, Event, RunReport, StepRefusal};
+use crate::stages::RunningCore;
+use bus::Bus;
+
+// The longest run.
+const MOST_STEPS: u32 = 65_536;
+
+impl RunningCore {
+    // One step, with the levels of the eight hardware lines.
+    pub fn step<B: Bus>(&mut self, bus: &mut B, levels: u8) -> Result<Event, StepRefusal>
+        ensures value { outcome result self.new (B.byte bus.new) ≡ step self.old levels (B.byte bus.old) }
+        ensures kept { B.layout bus.new ≡ B.layout bus.old }
+
+        // The bus refuses by 8 or 9, and then nothing changes.
+        ensures refused { IfErr result (λ e. Refused self.old (B.byte bus.old) e self.new (B.byte bus.new)) }
+
+        // An exception begins its handler in PLV0 with IE 0, and ERA is the step's PC.
+        ensures exception { IfException result (HandlerBegins self.old self.new) }
+
+        // An interrupt asks the bus for nothing.
+        ensures interrupt { interrupted (at_levels self.old levels).registers ≡ true → InterruptTaken self.old levels (B.byte bus.old) (outcome result self.new (B.byte bus.new)) }
+        ensures isolated { StepIsolated self.old levels (B.byte bus.old) (outcome result self.new (B.byte bus.new)) }
+        ensures confined { Confined self.old (B.byte bus.old) (outcome result self.new (B.byte bus.new)) }
+    {
+        self.state.step(bus, levels)
+    }
+
+    // As many steps, with the same levels, up to a refused one. A run longer than the longest is refused.
+    pub fn run<B: Bus>(
+        &mut self,
+        bus: &mut B,
+        count: u32,
+        levels: u8,
+    ) -> Result<RunReport, CallRefusal>
+        ensures value { outcome result self.new (B.byte bus.new) ≡ run self.old count levels (B.byte bus.old) }
+        ensures kept { B.layout bus.new ≡ B.layout bus.old }
+
+        // The counter has risen by the accepted steps, which are those that are reported.
+        ensures counter { IfOk result (λ report. self.new.registers.timer.counter % 2 ^ 64 ≡ (self.old.registers.timer.counter + report.steps) % 2 ^ 64) }
+
+        // A run of a + b steps is a run of a and then one of b.
+        ensures splits { IfOk result (λ report. Splits count levels self.old (B.byte bus.old) (outcome report self.new (B.byte bus.new))) }
+        ensures isolated { IfOk result (λ report. RunIsolated count levels self.old (B.byte bus.old) (outcome report self.new (B.byte bus.new))) }
+        ensures confined { (s : TheState) (m : Memory) → RunPerforms levels count self.old (B.byte bus.old) s m → Confined s m (step s levels m) }
+    {
+        if count > MOST_STEPS {
+            return Err(CallRefusal::RunTooLong);
+        }
+        Ok(self.state.run(bus, count, levels))
+    }
+}
