@@ -1,5 +1,5 @@
 -- What each instruction asks for, one line an instruction.
-use Rattle.std.specs.Prelude.{◌≡◌, ℕ, ◌/◌, ◌%◌, ◌^◌, Bool, true, false, cond}
+use Rattle.std.specs.Prelude.{ℕ, ◌/◌, ◌%◌, ◌^◌, Bool, true, false, cond}
 use Rattle.pages.specs.declared.address.VirtAddr.{VirtAddr}
 use Rattle.csr.specs.declared.exception.Exception.TheVariants.{Sys, Brk}
 use Rattle.csr.specs.declared.timer.Timer.{Timer}
@@ -14,7 +14,6 @@ use Rattle.isa.specs.Privilege.{hit}
 use Rattle.operations.specs.Operations.{register_result, shift_result, immediate_result, upper_result, taken}
 use Rattle.actions.specs.declared.action.Action.{Action}
 use Rattle.actions.specs.declared.action.Action.TheVariants as action
-use Rattle.actions.specs.declared.action.PrivilegedAction.{PrivilegedAction}
 use Rattle.actions.specs.declared.action.PrivilegedAction.TheVariants as privileged
 use Rattle.actions.specs.declared.user.UserState.{UserState}
 use Rattle.actions.specs.Registers.{gr, link_register}

@@ -29,7 +29,7 @@ use Rattle.machine.specs.Access.{locate}
 use Rattle.machine.specs.Outcomes.{Outcome, StepAnswer, Settled, settled, unasked, raise, refused, at_place}
 use Rattle.machine.specs.Accesses.{loaded, load_from, stored, store_to, linked, load_linked_from, unlinked, store_conditional_to, probe}
 use Rattle.machine.specs.Supervision.{by_privilege}
-use Rattle.machine.specs.Execution.{perform, decoded, fetched, fetch_from, fetch, by_interrupt, execute}
+use Rattle.machine.specs.Execution.{perform, decoded, fetched, fetch_from, by_interrupt}
 use Rattle.machine.specs.Step.{at_levels, keeps_waiting, awake, by_waiting, acted, ended, step}
 use Rattle.machine.specs.Isolation.{Fetches, Does, Accesses, loads, stores, loads_linked, stores_linked, Asks, by_fetch, by_access, Withheld, Agree, Alike, StepIsolated}
 use Rattle.machine.proofs.Bytes.{Both, written, SameAt, read_same, write_both}

@@ -25,7 +25,7 @@ use Rattle.actions.specs.declared.action.PrivilegedAction.{PrivilegedAction}
 use Rattle.actions.specs.declared.user.UserState.{UserState}
 use Rattle.actions.specs.Plan.{plan}
 use Rattle.machine.specs.declared.state.State.{State}
-use Rattle.machine.specs.State.{onward, with_result}
+use Rattle.machine.specs.State.{onward}
 use Rattle.machine.specs.Access.{locate}
 use Rattle.machine.specs.Outcomes.{Outcome, StepAnswer, unasked, done, raise, refused, at_place}
 use Rattle.machine.specs.Accesses.{loaded, load_from, stored, store_to, linked, load_linked_from, unlinked, store_conditional_to, probe}

@@ -1,5 +1,5 @@
 -- What a step alters that begins and ends in PLV3.
-use Rattle.std.proofs.Common.{◌≡◌, ℕ, Bool, true, false, ◌⊎◌, inl, inr, ⊎_elim, Ok, Err, Result, refl, sym, ap, subst, ◌∙◌, arith}
+use Rattle.std.proofs.Common.{◌≡◌, ℕ, Bool, true, false, inl, inr, ⊎_elim, refl, sym, ◌∙◌}
 use Rattle.bus.specs.Memory.{Memory}
 use Rattle.pages.specs.declared.access_kind.AccessKind.TheVariants as kind
 use Rattle.pages.specs.declared.privilege.Privilege.TheVariants.{Plv0, Plv3}
@@ -7,8 +7,8 @@ use Rattle.csr.specs.Interrupts.{due}
 use Rattle.machine.specs.declared.state.State.{State}
 use Rattle.machine.specs.Outcomes.{Outcome, StepAnswer}
 use Rattle.machine.specs.Execution.{execute}
-use Rattle.machine.specs.Step.{at_levels, keeps_waiting, awake, by_waiting, acted, ended, step}
-use Rattle.machine.specs.Isolation.{Reaches, UserStep, Confined}
+use Rattle.machine.specs.Step.{at_levels, keeps_waiting, awake, by_waiting, ended, step}
+use Rattle.machine.specs.Isolation.{UserStep, Confined}
 use Rattle.machine.proofs.Bytes.{write_names}
 use Rattle.machine.proofs.Coming.{Came, raises, goes, supervises, writes, unread, unwritten, execute_came}
 use Rattle.machine.proofs.Reaching.{byte_reached}

@@ -1,7 +1,6 @@
 -- The counter rises by one each accepted step.
-use Rattle.std.proofs.Common.{◌≡◌, ℕ, zero, suc, ◌+◌, ◌%◌, ◌^◌, Bool, true, false, Some, None, Option, Ok, Err, refl, sym, ap, subst, ◌∙◌, arith}
+use Rattle.std.proofs.Common.{◌≡◌, ℕ, zero, suc, ◌+◌, ◌%◌, ◌^◌, Bool, true, false, Some, None, Option, Ok, Err, refl, sym, ap, ◌∙◌, arith}
 use Rattle.bus.specs.Memory.{Memory}
-use Rattle.isa.specs.declared.instruction.TlbOp.{TlbOp}
 use Rattle.isa.specs.declared.instruction.TlbOp.TheVariants.{Tlbsrch, Tlbrd, Tlbwr, Tlbfill}
 use Rattle.tlb.specs.declared.invalidation.Invalidation.{Invalidation}
 use Rattle.tlb.specs.Invalidating.{numbered}

@@ -1,20 +1,17 @@
 -- The laws of a step.
-use Rattle.std.proofs.Common.{◌≡◌, ℕ, zero, suc, ◌%◌, ◌^◌, Bool, true, false, ◌&&◌, ◌==◌, ◌⊎◌, inl, inr, Some, None, Option, Ok, Err, Result, IfOk, IfErr, refl, sym, ap, subst, ◌∙◌, arith, eqb}
+use Rattle.std.proofs.Common.{◌≡◌, ℕ, zero, suc, ◌%◌, ◌^◌, Bool, true, false, ◌⊎◌, inl, inr, Some, None, Option, Ok, Err, Result, IfOk, IfErr, refl, sym, ap, subst, ◌∙◌, arith, eqb}
 use Rattle.std.proofs.lemmas.Bool.{cond-true, cond_both, both_ways, and_from, and_parts, eq-eqb}
 use Rattle.bus.specs.declared.address.PhysAddr.{PhysAddr}
 use Rattle.bus.specs.declared.refusal.Refusal.{Refusal}
-use Rattle.bus.specs.declared.refusal.Refusal.TheVariants.{Misaligned, Absent, Fixed}
+use Rattle.bus.specs.declared.refusal.Refusal.TheVariants.{Absent, Fixed}
 use Rattle.bus.specs.Cell.{Cell}
 use Rattle.bus.specs.Memory.{Memory, address, is_width, aligned, is_absent, is_fixed, unless_any, value_at, read_of, write_of, put}
 use Rattle.bus.specs.Refusals.{refusal_number}
-use Rattle.isa.specs.declared.instruction.TlbOp.{TlbOp}
 use Rattle.pages.specs.declared.address.VirtAddr.{VirtAddr}
 use Rattle.pages.specs.declared.access_kind.AccessKind.{AccessKind}
 use Rattle.pages.specs.declared.access_kind.AccessKind.TheVariants as kind
 use Rattle.tlb.specs.declared.invalidation.Invalidation.{Invalidation}
 use Rattle.tlb.specs.Invalidating.{numbered}
-use Rattle.csr.specs.declared.exception.Cause.TheVariants as cause
-use Rattle.csr.specs.declared.exception.Exception.{Exception}
 use Rattle.csr.specs.declared.exception.PageFault.{PageFault}
 use Rattle.csr.specs.Interrupts.{due}
 use Rattle.control.specs.Exceptions.{interrupted}
@@ -24,13 +21,11 @@ use Rattle.translation.proofs.Lying.{same_offset}
 use Rattle.actions.specs.declared.action.PrivilegedAction.{PrivilegedAction}
 use Rattle.actions.specs.declared.action.PrivilegedAction.TheVariants.{Csrrd, Csrwr, Csrxchg, Tlb, Invtlb, Ertn, Idle, Cacop}
 use Rattle.actions.specs.User.{virtual}
-use Rattle.machine.specs.declared.answers.Event.TheVariants as event
-use Rattle.machine.specs.declared.answers.StepRefusal.{StepRefusal}
 use Rattle.machine.specs.declared.state.Activity.{Activity}
 use Rattle.machine.specs.declared.state.Activity.TheVariants.{Running, Waiting}
 use Rattle.machine.specs.declared.state.State.{State}
 use Rattle.machine.specs.Access.{locate}
-use Rattle.machine.specs.Outcomes.{Outcome, outcome, StepAnswer, unasked}
+use Rattle.machine.specs.Outcomes.{Outcome, StepAnswer, unasked}
 use Rattle.machine.specs.Supervision.{invalidate, supervise}
 use Rattle.machine.specs.Execution.{by_interrupt, execute}
 use Rattle.machine.specs.Step.{at_levels, keeps_waiting, awake, by_waiting, acted, ended, step}

@@ -1,11 +1,9 @@
 -- What a step asks for, an address reaches.
-use Rattle.std.proofs.Common.{◌≡◌, ℕ, ◌+◌, ◌-◌, ◌%◌, ◌^◌, ◌<◌, Bool, true, false, ◌||◌, ◌==◌, ◌⊎◌, inl, inr, ⊎_elim, Ok, Err, Result, IfOk, refl, sym, ap, subst, ◌∙◌, arith, mod-lt, lit<, eqb}
+use Rattle.std.proofs.Common.{◌≡◌, ℕ, ◌+◌, ◌-◌, ◌%◌, ◌^◌, ◌<◌, Bool, true, false, ◌||◌, ◌⊎◌, inl, inr, ⊎_elim, Ok, Err, Result, IfOk, refl, sym, ap, subst, ◌∙◌, arith, mod-lt, lit<, eqb}
 use Rattle.std.proofs.lemmas.Bool.{or_cases, eqb-true}
 use Rattle.bus.specs.declared.address.PhysAddr.{PhysAddr}
 use Rattle.bus.specs.Memory.{Memory, is_width}
 use Rattle.bus.specs.Rules.{Names, Stands}
-use Rattle.isa.specs.declared.instruction.LoadOp.{LoadOp}
-use Rattle.isa.specs.declared.instruction.StoreOp.{StoreOp}
 use Rattle.pages.specs.declared.address.VirtAddr.{VirtAddr}
 use Rattle.pages.specs.declared.access_kind.AccessKind.{AccessKind}
 use Rattle.pages.specs.declared.access_kind.AccessKind.TheVariants as kind
@@ -19,7 +17,7 @@ use Rattle.translation.proofs.Lying.{loads_from}
 use Rattle.actions.specs.declared.action.Action.{Action}
 use Rattle.machine.specs.declared.state.State.{State}
 use Rattle.machine.specs.Access.{translated, if_aligned, locate}
-use Rattle.machine.specs.Isolation.{Fetches, Accesses, loads, stores, loads_linked, stores_linked, Asks, by_fetch, by_access, in_plv3, Reaches}
+use Rattle.machine.specs.Isolation.{Accesses, loads, stores, loads_linked, stores_linked, Asks, by_fetch, by_access, in_plv3, Reaches}
 use Rattle.machine.proofs.Coming.{load_is_width, store_is_width}
 
 abbrev pub word_of : VirtAddr → ℕ

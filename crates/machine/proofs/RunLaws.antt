@@ -5,10 +5,10 @@ use Rattle.machine.specs.declared.answers.Event.{Event}
 use Rattle.machine.specs.declared.answers.RunReport.{RunReport}
 use Rattle.machine.specs.declared.answers.StepRefusal.{StepRefusal}
 use Rattle.machine.specs.declared.state.State.{State}
-use Rattle.machine.specs.Outcomes.{Outcome, outcome, StepAnswer}
+use Rattle.machine.specs.Outcomes.{Outcome, StepAnswer}
 use Rattle.machine.specs.Step.{step, ran_on, run_of}
-use Rattle.machine.specs.Isolation.{Agree, Alike, Withheld}
-use Rattle.machine.specs.Laws.{go_on, after, Splits, RunPerforms, first, later, RunWithheld, RunIsolated}
+use Rattle.machine.specs.Isolation.{Agree, Alike}
+use Rattle.machine.specs.Laws.{go_on, after, Splits, first, later, RunWithheld, RunIsolated}
 use Rattle.machine.proofs.Alikes.{unmoved, step_isolated}
 use Rattle.machine.proofs.Counting.{counter, run_counted}
 

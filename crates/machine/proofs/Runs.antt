@@ -1,11 +1,11 @@
 -- A run, step by step.
-use Rattle.std.proofs.Common.{◌≡◌, ℕ, suc, ◌+◌, ◌-◌, ◌<◌, Some, Ok, Err, refl, sym, ap, ◌∙◌, arith}
+use Rattle.std.proofs.Common.{◌≡◌, ℕ, suc, ◌+◌, ◌-◌, ◌<◌, Some, Ok, Err, sym, ap, ◌∙◌, arith}
 use Rattle.bus.specs.Memory.{Memory}
 use Rattle.machine.specs.declared.answers.Event.{Event}
 use Rattle.machine.specs.declared.answers.RunReport.{RunReport}
 use Rattle.machine.specs.declared.answers.StepRefusal.{StepRefusal}
 use Rattle.machine.specs.declared.state.State.{State}
-use Rattle.machine.specs.Outcomes.{Outcome, outcome, StepAnswer}
+use Rattle.machine.specs.Outcomes.{Outcome, outcome}
 use Rattle.machine.specs.Step.{step, ran_on, run_of}
 
 -- a run of which k steps were made before

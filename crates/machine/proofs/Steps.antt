@@ -13,7 +13,7 @@ use Rattle.machine.specs.declared.answers.StepRefusal.{StepRefusal}
 use Rattle.machine.specs.declared.state.State.{State}
 use Rattle.machine.specs.Outcomes.{Outcome, outcome, StepAnswer}
 use Rattle.machine.specs.Execution.{perform, decoded, execute}
-use Rattle.machine.specs.Step.{at_levels, keeps_waiting, awake, by_waiting, act, with_beat, acted, ended, step}
+use Rattle.machine.specs.Step.{at_levels, keeps_waiting, awake, by_waiting, act, acted, ended, step}
 use Rattle.machine.proofs.Coming.{Came, raises, goes, supervises, writes, unread, unwritten, execute_came}
 
 pub obeyed : (s : State) (m : Memory) (word : ℕ) (i : Instruction) (a : Action) (o : Outcome StepAnswer) → Some i ≡ decode_of word

@@ -10,7 +10,6 @@ use Rattle.operations.specs.Operations.{load_width, load_result, store_width}
 use Rattle.pages.specs.declared.access_kind.AccessKind.TheVariants.{Load, Store}
 use Rattle.csr.specs.declared.exception.Exception.{Exception}
 use Rattle.csr.specs.Words.{bit}
-use Rattle.control.specs.declared.registers.Registers.{Registers}
 use Rattle.machine.specs.declared.state.State.{State}
 use Rattle.machine.specs.State.{onward, with_result}
 use Rattle.machine.specs.Outcomes.{Outcome, StepAnswer, Settled, unasked, done, raise, refused}

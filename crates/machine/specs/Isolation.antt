@@ -12,7 +12,6 @@ use Rattle.operations.specs.Operations.{load_width, store_width}
 use Rattle.pages.specs.declared.address.VirtAddr.{VirtAddr}
 use Rattle.pages.specs.declared.access_kind.AccessKind.{AccessKind}
 use Rattle.pages.specs.declared.access_kind.AccessKind.TheVariants as kind
-use Rattle.pages.specs.declared.privilege.Privilege.{Privilege}
 use Rattle.pages.specs.declared.privilege.Privilege.TheVariants.{Plv0, Plv3}
 use Rattle.csr.specs.declared.mode.Mode.{Mode}
 use Rattle.csr.specs.Interrupts.{due}

@@ -10,7 +10,7 @@ use Rattle.machine.specs.declared.answers.StepRefusal.{StepRefusal}
 use Rattle.machine.specs.declared.state.State.{State}
 use Rattle.machine.specs.Answers.{step_refusal_number}
 use Rattle.machine.specs.Isolation.{Asks, Withheld, Agree, Alike}
-use Rattle.machine.specs.Outcomes.{Outcome, outcome, StepAnswer}
+use Rattle.machine.specs.Outcomes.{Outcome, StepAnswer}
 use Rattle.machine.specs.Step.{step, run_of}
 
 -- a refused step was refused by the bus, with 8 or 9, and leaves core and memory as they were

@@ -19,7 +19,7 @@ use Rattle.actions.specs.declared.action.PrivilegedAction.TheVariants.{Csrrd, Cs
 use Rattle.actions.specs.User.{virtual, at_next}
 use Rattle.machine.specs.declared.state.Activity.TheVariants.{Waiting}
 use Rattle.machine.specs.declared.state.State.{State}
-use Rattle.machine.specs.State.{goes_to, onward, with_result}
+use Rattle.machine.specs.State.{onward, with_result}
 use Rattle.machine.specs.Outcomes.{Settled, done, raise}
 
 -- GR[rd] gets what the register read before

@@ -1,0 +1,33 @@
+-- What the driver's calls answer, and what a list of them does.
+use Rattle.std.specs.Prelude.{List, [], ◌∷◌}
+use Rattle.bus.specs.Memory.{Memory}
+use Rattle.machine.specs.declared.state.State.{State}
+use Rattle.machine.specs.Calls.{run, register_read, control_register_read, tlb_entry_read}
+use Rattle.machine.specs.Outcomes.{Outcome, outcome}
+use Rattle.machine.specs.State.{reset_state}
+use Rattle.machine.specs.Step.{step}
+use Rattle.driver.specs.declared.call.Call.{Call}
+use Rattle.driver.specs.declared.call.Call.TheVariants.{Reset, Step, Run, Pc, Register, ControlRegister, TlbEntry}
+use Rattle.driver.specs.declared.call.Answer.{Answer}
+use Rattle.driver.specs.declared.call.Answer.TheVariants as answer
+
+abbrev pub answered : {A : Type 0} → (A → Answer) → Outcome A → Outcome Answer
+answered kind o = outcome (kind o.answer) o.state o.memory
+
+abbrev pub answer_to : State → Memory → Call → Outcome Answer
+answer_to s m Reset = outcome answer.Reset reset_state m
+answer_to s m (Step levels) = answered answer.Step (step s levels m)
+answer_to s m (Run count levels) = answered answer.Run (run s count levels m)
+answer_to s m Pc = outcome (answer.Pc s.user.pc) s m
+answer_to s m (Register number) = outcome (answer.Register (register_read s number)) s m
+answer_to s m (ControlRegister number) = outcome (answer.ControlRegister (control_register_read s number)) s m
+answer_to s m (TlbEntry number) = outcome (answer.TlbEntry (tlb_entry_read s number)) s m
+
+-- an answer, and those that follow it
+abbrev pub then : Answer → Outcome (List Answer) → Outcome (List Answer)
+then a rest = record rest { answer = a ∷ rest.answer }
+
+-- each call works on what those before it left
+abbrev pub drive_of : State → Memory → List Call → Outcome (List Answer)
+drive_of s m [] = outcome [] s m
+drive_of s m (c ∷ cs) = then (answer_to s m c).answer (drive_of (answer_to s m c).state (answer_to s m c).memory cs)

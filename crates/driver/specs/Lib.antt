@@ -1,0 +1,2 @@
+pub mod Calls
+pub mod Isolation

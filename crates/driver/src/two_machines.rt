@@ -1,0 +1,39 @@
+// Two machines, on buses of one kind or of two, given the same calls.
+ghost use Rattle.std.specs.Prelude.{◌≡◌, IfOk, IfErr};
+ghost use Rattle.machine.specs.Outcomes.{outcome};
+ghost use Rattle.machine.specs.State.{reset_state};
+ghost use Rattle.driver.specs.Calls.{drive_of};
+ghost use Rattle.driver.specs.Isolation.{Isolation};
+
+use crate::call::{Answer, Call};
+use crate::one_machine::perform_each;
+use bus::Bus;
+use machine::RunningCore;
+use std::alloc::{AllocError, Global};
+
+// Resets both cores and gives both machines the calls, one machine after the other. Where there is no memory for the answers,
+// nothing is done.
+pub fn lockstep<A: Bus, B: Bus>(
+    alloc: Global,
+    left: &mut RunningCore,
+    left_bus: &mut A,
+    right: &mut RunningCore,
+    right_bus: &mut B,
+    calls: &[Call],
+) -> Result<(Vec<Answer>, Vec<Answer>), AllocError>
+    ensures left { IfOk result (λ both. outcome both.0.items left.new (A.byte left_bus.new) ≡ drive_of reset_state (A.byte left_bus.old) calls.now) }
+    ensures right { IfOk result (λ both. outcome both.1.items right.new (B.byte right_bus.new) ≡ drive_of reset_state (B.byte right_bus.old) calls.now) }
+    ensures unmade_left { IfErr result (λ _. (left.new ≡ left.old) × (A.byte left_bus.new ≡ A.byte left_bus.old)) }
+    ensures unmade_right { IfErr result (λ _. (right.new ≡ right.old) × (B.byte right_bus.new ≡ B.byte right_bus.old)) }
+    ensures left_kept { A.layout left_bus.new ≡ A.layout left_bus.old }
+    ensures right_kept { B.layout right_bus.new ≡ B.layout right_bus.old }
+    ensures isolation { IfOk result (λ both. Isolation calls.now (A.byte left_bus.old) (B.byte right_bus.old) (outcome both.0.items left.new (A.byte left_bus.new)) (outcome both.1.items right.new (B.byte right_bus.new))) }
+{
+    let mut left_answers = Vec::with_capacity(alloc, calls.len())?;
+    let mut right_answers = Vec::with_capacity(alloc, calls.len())?;
+    left.reset();
+    right.reset();
+    perform_each(left, left_bus, calls, &mut left_answers);
+    perform_each(right, right_bus, calls, &mut right_answers);
+    Ok((left_answers, right_answers))
+}
