@@ -1,0 +1,2 @@
+pub mod Addition
+pub mod Examples
