@@ -3,8 +3,8 @@ use csr::Exception;
 use isa::{LoadOp, Reg, StoreOp, TlbOp};
 use pages::VirtAddr;
 
-// An address in an action is the program's own: only the step translates it and asks the bus. And whatever any program may do can
-// alter the general registers, the PC, memory and the link, and nothing else.
+// An address in an action is the program's own: only the step translates it and asks the bus. And what any program may do alters the
+// general registers, the PC, memory and the link alone, unless it raises an exception.
 #[derive(Clone, Copy, PartialEq, Eq, Debug)]
 pub enum Action {
     // GR[rd] gets the value, and the program goes on at `next`.

@@ -18,16 +18,16 @@ use Rattle.driver.specs.declared.call.Call.TheVariants.{Reset, Step, Run, Pc, Re
 use Rattle.driver.specs.declared.call.Answer.{Answer}
 use Rattle.driver.specs.declared.call.Answer.TheVariants as answer
 use Rattle.driver.specs.Calls.{answered, answer_to, drive_of}
-use Rattle.driver.specs.Isolation.{by_step, by_run, by_later_call, AllWithheld, AllConfined, DriveIsolated, Isolation}
+use Rattle.driver.specs.Isolation.{by_step, by_run, by_later_call, AllWithheld, AllConfined, DriveIsolated, Isolated}
 
 pub all_confined : (calls : List Call) (s : State) (m : Memory) → AllConfined calls s m
 all_confined calls s m t levels k performs = confined t levels k
 
 module _ (withheld : ℕ → Bool) where
-  answered_alike : {A : Type 0} (kind : A → Answer) (m n : Memory) (o p : Outcome A) → Alike withheld m n o p
-      → Alike withheld m n (answered kind o) (answered kind p)
-  answered_alike kind m n o p same = record {
-    answers = ap kind same.answers;
+  answered_alike : {A : Type 0} (case : A → Answer) (m n : Memory) (o p : Outcome A) → Alike withheld m n o p
+      → Alike withheld m n (answered case o) (answered case p)
+  answered_alike case m n o p same = record {
+    answers = ap case same.answers;
     cores = same.cores;
     others = same.others;
     left_kept = same.left_kept;
@@ -80,12 +80,6 @@ module _ (withheld : ℕ → Bool) where
         right_kept = λ x in_it. more.right_kept x in_it ∙ one.right_kept x in_it;
       }
 
-drive_isolated : (calls : List Call) (s : State) (m : Memory) → DriveIsolated calls s m (drive_of s m calls)
-drive_isolated calls s m withheld n agree held = drive_alike withheld calls s m n agree held
-
-pub isolated : (calls : List Call) (s : State) (m : Memory) (o : Outcome (List Answer)) → o ≡ drive_of s m calls → DriveIsolated calls s m o
-isolated calls s m o is = subst (DriveIsolated calls s m) (sym is) (drive_isolated calls s m)
-
 -- the answers to the first calls are the first answers
 first_answers : (before behind : List Call) (s : State) (m : Memory)
     → take (length before) (drive_of s m (before ++ behind)).answer ≡ (drive_of s m before).answer
@@ -94,22 +88,18 @@ first_answers (c ∷ cs) behind s m =
     let o = answer_to s m c in
     ap (λ rest. o.answer ∷ rest) (first_answers cs behind o.state o.memory)
 
-both_isolated : (calls : List Call) (m n : Memory) → Isolation calls m n (drive_of reset_state m calls) (drive_of reset_state n calls)
-both_isolated calls m n = record {
-  alike = λ withheld agree held. drive_alike withheld calls reset_state m n agree held;
-  alike_so_far = λ withheld before behind is agree held. drive_alike withheld before reset_state m n agree held;
-  answers_so_far = λ before behind is. (
-    ap (λ cs. take (length before) (drive_of reset_state m cs).answer) is ∙ first_answers before behind reset_state m,
-    ap (λ cs. take (length before) (drive_of reset_state n cs).answer) is ∙ first_answers before behind reset_state n,
-  );
-  left_confined = all_confined calls reset_state m;
-  right_confined = all_confined calls reset_state n;
+isolated_of : (calls : List Call) (s : State) (m n : Memory) → Isolated calls s m n (drive_of s m calls) (drive_of s n calls)
+isolated_of calls s m n = record {
+  alike = λ withheld agree held. drive_alike withheld calls s m n agree held;
+  alike_so_far = λ withheld before behind is agree held. drive_alike withheld before s m n agree held;
+  left_so_far = λ before behind is. ap (λ cs. take (length before) (drive_of s m cs).answer) is ∙ first_answers before behind s m;
+  right_so_far = λ before behind is. ap (λ cs. take (length before) (drive_of s n cs).answer) is ∙ first_answers before behind s n;
 }
 
-pub isolation : (calls : List Call) (s t : State) (m n : Memory) (left right : Outcome (List Answer)) → s ≡ reset_state → t ≡ reset_state
-    → left ≡ drive_of s m calls → right ≡ drive_of t n calls → Isolation calls m n left right
-isolation calls s t m n left right fresh fresh_too is is_too =
-    let here : left ≡ drive_of reset_state m calls = is ∙ ap (λ (u : State). drive_of u m calls) fresh in
-    let there : right ≡ drive_of reset_state n calls = is_too ∙ ap (λ (u : State). drive_of u n calls) fresh_too in
-    subst (λ o. Isolation calls m n o right) (sym here)
-    (subst (λ o. Isolation calls m n (drive_of reset_state m calls) o) (sym there) (both_isolated calls m n))
+pub isolated : (calls : List Call) (s : State) (m n : Memory) (left right : Outcome (List Answer)) → left ≡ drive_of s m calls
+    → right ≡ drive_of s n calls → Isolated calls s m n left right
+isolated calls s m n left right is is_too =
+    subst (λ o. Isolated calls s m n o right) (sym is) (subst (λ o. Isolated calls s m n (drive_of s m calls) o) (sym is_too) (isolated_of calls s m n))
+
+pub drive_isolated : (calls : List Call) (s : State) (m : Memory) (o : Outcome (List Answer)) → o ≡ drive_of s m calls → DriveIsolated calls s m o
+drive_isolated calls s m o is n = isolated calls s m n o (drive_of s n calls) is refl

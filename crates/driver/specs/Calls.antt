@@ -12,7 +12,7 @@ use Rattle.driver.specs.declared.call.Answer.{Answer}
 use Rattle.driver.specs.declared.call.Answer.TheVariants as answer
 
 abbrev pub answered : {A : Type 0} → (A → Answer) → Outcome A → Outcome Answer
-answered kind o = outcome (kind o.answer) o.state o.memory
+answered case o = outcome (case o.answer) o.state o.memory
 
 abbrev pub answer_to : State → Memory → Call → Outcome Answer
 answer_to s m Reset = outcome answer.Reset reset_state m

@@ -1,2 +1,3 @@
+pub mod Answers
 pub mod Calls
 pub mod Isolation

@@ -1,4 +1,7 @@
 // The driver's calls and their answers, as values.
+ghost use Rattle.std.specs.Prelude.{◌≡◌};
+ghost use Rattle.driver.specs.Answers.{run_number, answer_number};
+
 use machine::{CallRefusal, Event, RunReport, StepRefusal};
 use pages::VirtAddr;
 use tlb::Entry;
@@ -25,4 +28,35 @@ pub enum Answer {
     Register(Result<u32, CallRefusal>),
     ControlRegister(Result<u32, CallRefusal>),
     TlbEntry(Result<Entry, CallRefusal>),
+}
+
+fn run_number(report: &RunReport) -> u32
+    ensures { result ≡ run_number report.now.refusal }
+{
+    match report.refusal {
+        Some(refusal) => refusal.number(),
+        None => 0,
+    }
+}
+
+impl Answer {
+    // 0 where the call was done, 1 or 2 for a step that waited or took an exception, or the number of the refusal.
+    pub fn number(&self) -> u32
+        ensures { result ≡ answer_number self.now }
+    {
+        match self {
+            Answer::Step(Ok(event)) => event.number(),
+            Answer::Step(Err(refusal)) => refusal.number(),
+            Answer::Run(Ok(report)) => run_number(report),
+            Answer::Run(Err(refusal))
+            | Answer::Register(Err(refusal))
+            | Answer::ControlRegister(Err(refusal))
+            | Answer::TlbEntry(Err(refusal)) => refusal.number(),
+            Answer::Reset
+            | Answer::Pc(_)
+            | Answer::Register(Ok(_))
+            | Answer::ControlRegister(Ok(_))
+            | Answer::TlbEntry(Ok(_)) => 0,
+        }
+    }
 }

@@ -1,6 +1,5 @@
 // One machine, a core on any bus, given calls.
-ghost use Rattle.std.specs.Prelude.{◌≡◌, ◌≤◌, ℕ, [], length, vec_capacity, IfOk, IfErr};
-ghost use Rattle.bus.specs.Memory.{Memory};
+ghost use Rattle.std.specs.Prelude.{◌≡◌, IfOk, IfErr};
 ghost use Rattle.machine.specs.Outcomes.{outcome};
 ghost use Rattle.driver.specs.Calls.{answer_to, drive_of};
 ghost use Rattle.driver.specs.Isolation.{AllConfined, DriveIsolated};
@@ -29,24 +28,6 @@ pub fn perform<B: Bus>(core: &mut RunningCore, bus: &mut B, call: Call) -> Answe
     }
 }
 
-// Makes the calls in their order, and adds their answers to the list, for which there is room.
-pub(crate) fn perform_each<B: Bus>(
-    core: &mut RunningCore,
-    bus: &mut B,
-    calls: &[Call],
-    answers: &mut Vec<Answer>,
-)
-    requires none { answers.old.items ≡ [] }
-    requires room { length calls.now ≤ vec_capacity answers.old }
-    ensures value { outcome answers.new.items core.new (B.byte bus.new) ≡ drive_of core.old (B.byte bus.old) calls.now }
-    ensures kept { B.layout bus.new ≡ B.layout bus.old }
-{
-    for call in calls {
-        let answer = perform(core, bus, *call);
-        answers.push_reserved(answer);
-    }
-}
-
 // Makes the calls in their order. Where there is no memory for the answers, none is made.
 pub fn drive<B: Bus>(
     alloc: Global,
@@ -61,6 +42,9 @@ pub fn drive<B: Bus>(
     ensures confined { AllConfined calls.now core.old (B.byte bus.old) }
 {
     let mut answers = Vec::with_capacity(alloc, calls.len())?;
-    perform_each(core, bus, calls, &mut answers);
+    for call in calls {
+        let answer = perform(core, bus, *call);
+        answers.push_reserved(answer);
+    }
     Ok(answers)
 }

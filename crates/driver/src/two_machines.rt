@@ -3,16 +3,16 @@ ghost use Rattle.std.specs.Prelude.{◌≡◌, IfOk, IfErr};
 ghost use Rattle.machine.specs.Outcomes.{outcome};
 ghost use Rattle.machine.specs.State.{reset_state};
 ghost use Rattle.driver.specs.Calls.{drive_of};
-ghost use Rattle.driver.specs.Isolation.{Isolation};
+ghost use Rattle.driver.specs.Isolation.{Isolated, AllConfined};
 
 use crate::call::{Answer, Call};
-use crate::one_machine::perform_each;
+use crate::one_machine::perform;
 use bus::Bus;
 use machine::RunningCore;
 use std::alloc::{AllocError, Global};
 
-// Resets both cores and gives both machines the calls, one machine after the other. Where there is no memory for the answers,
-// nothing is done.
+// Resets both cores and gives both machines the calls, each to the one and then to the other. Where there is no memory for the
+// answers, nothing is done.
 pub fn lockstep<A: Bus, B: Bus>(
     alloc: Global,
     left: &mut RunningCore,
@@ -27,13 +27,21 @@ pub fn lockstep<A: Bus, B: Bus>(
     ensures unmade_right { IfErr result (λ _. (right.new ≡ right.old) × (B.byte right_bus.new ≡ B.byte right_bus.old)) }
     ensures left_kept { A.layout left_bus.new ≡ A.layout left_bus.old }
     ensures right_kept { B.layout right_bus.new ≡ B.layout right_bus.old }
-    ensures isolation { IfOk result (λ both. Isolation calls.now (A.byte left_bus.old) (B.byte right_bus.old) (outcome both.0.items left.new (A.byte left_bus.new)) (outcome both.1.items right.new (B.byte right_bus.new))) }
+
+    // The isolation theorem: what both machines come to, and each step of either.
+    ensures isolated { IfOk result (λ both. Isolated calls.now reset_state (A.byte left_bus.old) (B.byte right_bus.old) (outcome both.0.items left.new (A.byte left_bus.new)) (outcome both.1.items right.new (B.byte right_bus.new))) }
+    ensures left_confined { AllConfined calls.now reset_state (A.byte left_bus.old) }
+    ensures right_confined { AllConfined calls.now reset_state (B.byte right_bus.old) }
 {
     let mut left_answers = Vec::with_capacity(alloc, calls.len())?;
     let mut right_answers = Vec::with_capacity(alloc, calls.len())?;
     left.reset();
     right.reset();
-    perform_each(left, left_bus, calls, &mut left_answers);
-    perform_each(right, right_bus, calls, &mut right_answers);
+    for call in calls {
+        let answer = perform(left, left_bus, *call);
+        left_answers.push_reserved(answer);
+        let answer = perform(right, right_bus, *call);
+        right_answers.push_reserved(answer);
+    }
     Ok((left_answers, right_answers))
 }

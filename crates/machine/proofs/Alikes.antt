@@ -24,10 +24,10 @@ use Rattle.actions.specs.declared.action.Action.TheVariants.{Write, Go, Load, St
 use Rattle.actions.specs.Plan.{plan}
 use Rattle.machine.specs.declared.answers.Event.TheVariants as event
 use Rattle.machine.specs.declared.state.State.{State}
-use Rattle.machine.specs.State.{onward}
+use Rattle.machine.specs.State.{advanced}
 use Rattle.machine.specs.Access.{locate}
 use Rattle.machine.specs.Outcomes.{Outcome, StepAnswer, Settled, settled, unasked, raise, refused, at_place}
-use Rattle.machine.specs.Accesses.{loaded, load_from, stored, store_to, linked, load_linked_from, unlinked, store_conditional_to, probe}
+use Rattle.machine.specs.Accesses.{loaded, load_from, stored, store_to, loaded_linked, load_linked_from, unlinked, store_conditional_to, probe}
 use Rattle.machine.specs.Supervision.{by_privilege}
 use Rattle.machine.specs.Execution.{perform, decoded, fetched, fetch_from, by_interrupt}
 use Rattle.machine.specs.Step.{at_levels, keeps_waiting, awake, by_waiting, acted, ended, step}
@@ -77,9 +77,9 @@ module _ (withheld : ℕ → Bool) (m n : Memory) (agree : Agree withheld m n) w
   loaded_same s op rd (Ok value) = unasked_same _
   loaded_same s op rd (Err e) = refused_same s kind.Load e
 
-  linked_same : (s : State) (rd : Reg) (r : Result ℕ Refusal) → Same (linked s m rd r) (linked s n rd r)
-  linked_same s rd (Ok value) = unasked_same _
-  linked_same s rd (Err e) = refused_same s kind.Load e
+  loaded_linked_same : (s : State) (rd : Reg) (r : Result ℕ Refusal) → Same (loaded_linked s m rd r) (loaded_linked s n rd r)
+  loaded_linked_same s rd (Ok value) = unasked_same _
+  loaded_linked_same s rd (Err e) = refused_same s kind.Load e
 
   load_same : (s : State) (op : LoadOp) (rd : Reg) (to : PhysAddr) → Clear to (load_width op) → Same (load_from s m op rd to) (load_from s n op rd to)
   load_same s op rd to clear =
@@ -88,8 +88,8 @@ module _ (withheld : ℕ → Bool) (m n : Memory) (agree : Agree withheld m n) w
 
   load_linked_same : (s : State) (rd : Reg) (to : PhysAddr) → Clear to 4 → Same (load_linked_from s m rd to) (load_linked_from s n rd to)
   load_linked_same s rd to clear =
-      subst (λ (r : Result ℕ Refusal). Same (load_linked_from s m rd to) (linked s n rd r)) (read_same m n to.0 4 (clear_same to 4 clear))
-      (linked_same s rd (read_of m to.0 4))
+      subst (λ (r : Result ℕ Refusal). Same (load_linked_from s m rd to) (loaded_linked s n rd r)) (read_same m n to.0 4 (clear_same to 4 clear))
+      (loaded_linked_same s rd (read_of m to.0 4))
 
   stored_same : (s after : State) (to : PhysAddr) (w : ℕ) (r q : Result Memory Refusal) → Clear to w → Both m n to.0 w r q
       → Same (stored s after m r) (stored s after n q)
@@ -121,7 +121,7 @@ module _ (withheld : ℕ → Bool) (m n : Memory) (agree : Agree withheld m n) w
   perform_same s (Load op rd at) free = at_place_same s (load_from s m op rd) (load_from s n op rd) (locate s kind.Load (load_width op) at)
       (λ to is. load_same s op rd to (free kind.Load (load_width op) at to (loads op rd at) is))
   perform_same s (Store op at value) free = at_place_same s (store_to s m op value) (store_to s n op value) (locate s kind.Store (store_width op) at)
-      (λ to is. store_same s (onward s) to (store_width op) value (free kind.Store (store_width op) at to (stores op at value) is))
+      (λ to is. store_same s (advanced s) to (store_width op) value (free kind.Store (store_width op) at to (stores op at value) is))
   perform_same s (LoadLinked rd at) free = at_place_same s (load_linked_from s m rd) (load_linked_from s n rd) (locate s kind.Load 4 at)
       (λ to is. load_linked_same s rd to (free kind.Load 4 at to (loads_linked rd at) is))
   perform_same s (StoreConditional rd at value) free =

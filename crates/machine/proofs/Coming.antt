@@ -25,10 +25,10 @@ use Rattle.actions.specs.declared.action.PrivilegedAction.{PrivilegedAction}
 use Rattle.actions.specs.declared.user.UserState.{UserState}
 use Rattle.actions.specs.Plan.{plan}
 use Rattle.machine.specs.declared.state.State.{State}
-use Rattle.machine.specs.State.{onward}
+use Rattle.machine.specs.State.{advanced}
 use Rattle.machine.specs.Access.{locate}
 use Rattle.machine.specs.Outcomes.{Outcome, StepAnswer, unasked, done, raise, refused, at_place}
-use Rattle.machine.specs.Accesses.{loaded, load_from, stored, store_to, linked, load_linked_from, unlinked, store_conditional_to, probe}
+use Rattle.machine.specs.Accesses.{loaded, load_from, stored, store_to, loaded_linked, load_linked_from, unlinked, store_conditional_to, probe}
 use Rattle.machine.specs.Supervision.{supervise, by_privilege}
 use Rattle.machine.specs.Execution.{perform, decoded, fetched, fetch_from, fetch, by_interrupt, execute}
 
@@ -70,10 +70,10 @@ module _ (s : State) (m : Memory) where
   loaded_came op rd at place is (Ok value) e = goes _ _
   loaded_came op rd at place is (Err x) e = unread kind.Load at place (load_width op) x (load_is_width op) is e
 
-  linked_came : (rd : Reg) (at : VirtAddr) (place : PhysAddr) → locate s kind.Load 4 at ≡ Ok place
-      → (r : Result ℕ Refusal) → read_of m place.0 4 ≡ r → Came s m (linked s m rd r)
-  linked_came rd at place is (Ok value) e = goes _ _
-  linked_came rd at place is (Err x) e = unread kind.Load at place 4 x refl is e
+  loaded_linked_came : (rd : Reg) (at : VirtAddr) (place : PhysAddr) → locate s kind.Load 4 at ≡ Ok place
+      → (r : Result ℕ Refusal) → read_of m place.0 4 ≡ r → Came s m (loaded_linked s m rd r)
+  loaded_linked_came rd at place is (Ok value) e = goes _ _
+  loaded_linked_came rd at place is (Err x) e = unread kind.Load at place 4 x refl is e
 
   stored_came : (u : UserState) (link : Bool) (at : VirtAddr) (place : PhysAddr) (w v : ℕ) → is_width w ≡ true
       → locate s kind.Store w at ≡ Ok place → (r : Result Memory Refusal) → write_of m place.0 w v ≡ r
@@ -101,9 +101,9 @@ module _ (s : State) (m : Memory) where
   perform_came (Load op rd at) = at_place_came (load_from s m op rd) (locate s kind.Load (load_width op) at)
       (λ place is. loaded_came op rd at place is (read_of m place.0 (load_width op)) refl)
   perform_came (Store op at value) = at_place_came (store_to s m op value) (locate s kind.Store (store_width op) at)
-      (λ place is. stored_came (onward s).user s.registers.link at place (store_width op) value (store_is_width op) is (write_of m place.0 (store_width op) value) refl)
+      (λ place is. stored_came (advanced s).user s.registers.link at place (store_width op) value (store_is_width op) is (write_of m place.0 (store_width op) value) refl)
   perform_came (LoadLinked rd at) = at_place_came (load_linked_from s m rd) (locate s kind.Load 4 at)
-      (λ place is. linked_came rd at place is (read_of m place.0 4) refl)
+      (λ place is. loaded_linked_came rd at place is (read_of m place.0 4) refl)
   perform_came (StoreConditional rd at value) = at_place_came (store_conditional_to s m rd value s.registers.link) (locate s kind.Store 4 at)
       (λ place is. conditional_came rd at value s.registers.link place is)
   perform_came (Probe at) = probe_came (locate s kind.Load 1 at)

@@ -1,12 +1,12 @@
 -- The laws of a step.
-use Rattle.std.proofs.Common.{◌≡◌, ℕ, zero, suc, ◌%◌, ◌^◌, Bool, true, false, ◌⊎◌, inl, inr, Some, None, Option, Ok, Err, Result, IfOk, IfErr, refl, sym, ap, subst, ◌∙◌, arith, eqb}
-use Rattle.std.proofs.lemmas.Bool.{cond-true, cond_both, both_ways, and_from, and_parts, eq-eqb}
+use Rattle.std.proofs.Common.{◌≡◌, ℕ, zero, suc, ◌%◌, ◌^◌, Bool, true, false, ◌⊎◌, inl, inr, Some, None, Option, Ok, Err, Result, IfOk, IfErr, refl, sym, ap, subst, ◌∙◌, arith, eqb, cond, ⊎_elim}
+use Rattle.std.proofs.lemmas.Bool.{cond-true, both_ways, and_from, and_parts, eq-eqb}
 use Rattle.bus.specs.declared.address.PhysAddr.{PhysAddr}
 use Rattle.bus.specs.declared.refusal.Refusal.{Refusal}
 use Rattle.bus.specs.declared.refusal.Refusal.TheVariants.{Absent, Fixed}
 use Rattle.bus.specs.Cell.{Cell}
 use Rattle.bus.specs.Memory.{Memory, address, is_width, aligned, is_absent, is_fixed, unless_any, value_at, read_of, write_of, put}
-use Rattle.bus.specs.Refusals.{refusal_number}
+use Rattle.bus.specs.Refusals.{refusal_number, refusal_address}
 use Rattle.pages.specs.declared.address.VirtAddr.{VirtAddr}
 use Rattle.pages.specs.declared.access_kind.AccessKind.{AccessKind}
 use Rattle.pages.specs.declared.access_kind.AccessKind.TheVariants as kind
@@ -30,32 +30,27 @@ use Rattle.machine.specs.Supervision.{invalidate, supervise}
 use Rattle.machine.specs.Execution.{by_interrupt, execute}
 use Rattle.machine.specs.Step.{at_levels, keeps_waiting, awake, by_waiting, acted, ended, step}
 use Rattle.machine.specs.Isolation.{Asks, by_fetch, by_access, StepIsolated, Confined}
-use Rattle.machine.specs.Laws.{Refused, IfException, HandlerBegins, InterruptTaken}
+use Rattle.machine.specs.Laws.{RefusedFor, missing, unwritable, Refused, IfException, HandlerBegins, InterruptTaken}
 use Rattle.machine.proofs.Coming.{Came, raises, goes, supervises, writes, unread, unwritten, execute_came}
 use Rattle.machine.proofs.Reaching.{word_of, Located, located, wide}
 use Rattle.machine.proofs.Confining.{confined}
 use Rattle.machine.proofs.Alikes.{step_isolated}
 
-abbrev EightOrNine : Refusal → Type 0
-EightOrNine e = (refusal_number e ≡ 8) ⊎ (refusal_number e ≡ 9)
+module _ (m : Memory) (p : Cell → Bool) (to : PhysAddr → Refusal) (e : Refusal) where
+  -- a cell of which p is true is why a scan refuses
+  abbrev Found : Type 0
+  Found = (x : ℕ) × ((p (m x) ≡ true) × (e ≡ to (address x)))
 
-abbrev Expected : {X : Type 0} → Result X Refusal → Type 0
-Expected r = IfErr r EightOrNine
+  here_or_later : {X : Type 0} (a : ℕ) (b : Bool) (later : Result X Refusal) (r : Result X Refusal) → p (m a) ≡ b
+      → cond b (Err (to (address a))) later ≡ Err e → (later ≡ Err e → Found ⊎ (r ≡ Err e)) → Found ⊎ (r ≡ Err e)
+  here_or_later a true later r found is rest = let same : to (address a) ≡ e = cc in inl (a, (found, sym same))
+  here_or_later a false later r found is rest = rest is
 
-scan_expected : {X : Type 0} (m : Memory) (p : Cell → Bool) (to : PhysAddr → Refusal) → ((y : PhysAddr) → EightOrNine (to y)) → (a w : ℕ)
-    → (r : Result X Refusal) → Expected r → Expected (unless_any p to m a w r)
-scan_expected m p to h a zero r expected = expected
-scan_expected m p to h a (suc w) r expected =
-    cond_both (p (m a)) _ _ Expected (λ _. h (address a)) (λ _. scan_expected m p to h (suc a) w r expected)
-
-read_expected : (m : Memory) (a w : ℕ) → aligned a w ≡ true → Expected (read_of m a w)
-read_expected m a w fit =
-    subst Expected (sym (cond-true (aligned a w) _ _ fit)) (scan_expected m is_absent Absent (λ y. inl refl) a w (Ok (value_at m a w)) tt)
-
-write_expected : (m : Memory) (a w v : ℕ) → aligned a w ≡ true → Expected (write_of m a w v)
-write_expected m a w v fit =
-    subst Expected (sym (cond-true (aligned a w) _ _ fit))
-    (scan_expected m is_absent Absent (λ y. inl refl) a w _ (scan_expected m is_fixed Fixed (λ y. inr refl) a w (Ok (put m a w v)) tt))
+  -- a scan that refuses does so for such a cell
+  scan_refuses : {X : Type 0} (a w : ℕ) (r : Result X Refusal) → unless_any p to m a w r ≡ Err e → Found ⊎ (r ≡ Err e)
+  scan_refuses a zero r is = inr is
+  scan_refuses a (suc w) r is =
+      here_or_later a (p (m a)) (unless_any p to m (suc a) w r) r refl is (scan_refuses (suc a) w r)
 
 same_multiple : (p at w : ℕ) → (w ≡ 1) ⊎ ((w ≡ 2) ⊎ (w ≡ 4)) → p % 2 ^ 12 ≡ at % 2 ^ 12 → at % w ≡ 0 → p % w ≡ 0
 same_multiple p at w (inl one) same even = subst (λ (n : ℕ). p % n ≡ 0) (sym one) (omega arith)
@@ -79,11 +74,21 @@ module _ (s : State) (levels : ℕ) (m : Memory) where
   abbrev RefusedBy : Outcome StepAnswer → Type 0
   RefusedBy o = IfErr o.answer (λ e. Refused s m e o.state o.memory)
 
-  expected : (r : Result ℕ Refusal) (e : Refusal) → Expected r → r ≡ Err e → EightOrNine e
-  expected r e h is = subst Expected is h
+  read_reason : (k : AccessKind) (a w : ℕ) (e : Refusal) → aligned a w ≡ true → read_of m a w ≡ Err e
+      → RefusedFor m (record { by_bus = e; kind = k; pc = s.user.pc })
+  read_reason k a w e fit is =
+      ⊎_elim (λ h. missing h.0 h.1.0 (ap refusal_number h.1.1) (ap refusal_address h.1.1))
+      (λ none. let z : ◌≡◌ {A = ℕ} 0 1 = cc in absurd (omega arith))
+      (scan_refuses m is_absent Absent e a w (Ok (value_at m a w)) (sym (cond-true (aligned a w) _ _ fit) ∙ is))
 
-  expected_write : (r : Result Memory Refusal) (e : Refusal) → Expected r → r ≡ Err e → EightOrNine e
-  expected_write r e h is = subst Expected is h
+  write_reason : (a w v : ℕ) (e : Refusal) → aligned a w ≡ true → write_of m a w v ≡ Err e
+      → RefusedFor m (record { by_bus = e; kind = kind.Store; pc = s.user.pc })
+  write_reason a w v e fit is =
+      ⊎_elim (λ h. missing h.0 h.1.0 (ap refusal_number h.1.1) (ap refusal_address h.1.1))
+      (λ more. ⊎_elim (λ h. unwritable h.0 h.1.0 refl (ap refusal_number h.1.1) (ap refusal_address h.1.1))
+      (λ none. let z : ◌≡◌ {A = ℕ} 0 1 = cc in absurd (omega arith))
+      (scan_refuses m is_fixed Fixed e a w (Ok (put m a w v)) more))
+      (scan_refuses m is_absent Absent e a w (unless_any is_fixed Fixed m a w (Ok (put m a w v))) (sym (cond-true (aligned a w) _ _ fit) ∙ is))
 
   came_refused : (o : Outcome StepAnswer) → Came (awake (at_levels s levels)) m o → RefusedBy (ended s m o.answer o)
   came_refused o (raises e) = tt
@@ -91,13 +96,13 @@ module _ (s : State) (levels : ℕ) (m : Memory) where
   came_refused o (supervises action level) = tt
   came_refused o (writes u link at place w v n is_wide to put_is) = tt
   came_refused o (unread k at place w e is_wide to got) = record {
-    number = expected (read_of m place.0 w) e (read_expected m place.0 w (place_aligned s k w at place is_wide to)) got;
+    reason = read_reason k place.0 w e (place_aligned s k w at place is_wide to) got;
     pc = refl;
     state = refl;
     memory = refl;
   }
   came_refused o (unwritten at place w v e is_wide to put_is) = record {
-    number = expected_write (write_of m place.0 w v) e (write_expected m place.0 w v (place_aligned s kind.Store w at place is_wide to)) put_is;
+    reason = write_reason place.0 w v e (place_aligned s kind.Store w at place is_wide to) put_is;
     pc = refl;
     state = refl;
     memory = refl;

@@ -8,24 +8,24 @@ use Rattle.machine.specs.declared.state.State.{State}
 use Rattle.machine.specs.Outcomes.{Outcome, StepAnswer}
 use Rattle.machine.specs.Step.{step, ran_on, run_of}
 use Rattle.machine.specs.Isolation.{Agree, Alike}
-use Rattle.machine.specs.Laws.{go_on, after, Splits, first, later, RunWithheld, RunIsolated}
+use Rattle.machine.specs.Laws.{followed_by, after, Splits, first, later, RunWithheld, RunIsolated}
 use Rattle.machine.proofs.Alikes.{unmoved, step_isolated}
 use Rattle.machine.proofs.Counting.{counter, run_counted}
 
 abbrev one_more_step : Outcome RunReport → Outcome RunReport
 one_more_step o = record o { answer = record o.answer { steps = suc o.answer.steps } }
 
-go_on_later : (k : ℕ) (refusal : Option StepRefusal) (ran rest : Outcome RunReport)
-    → one_more_step (go_on k refusal ran rest) ≡ go_on (suc k) refusal (one_more_step ran) rest
-go_on_later k None ran rest =
+followed_by_later : (k : ℕ) (refusal : Option StepRefusal) (ran rest : Outcome RunReport)
+    → one_more_step (followed_by k refusal ran rest) ≡ followed_by (suc k) refusal (one_more_step ran) rest
+followed_by_later k None ran rest =
     let more : suc (k + rest.answer.steps) ≡ suc k + rest.answer.steps = omega arith in
     ap (λ n. record rest { answer = record rest.answer { steps = n } }) more
-go_on_later k (Some e) ran rest = refl
+followed_by_later k (Some e) ran rest = refl
 
 ran_on_after : (a : StepAnswer) (o : Outcome StepAnswer) (ran whole : Outcome RunReport) (rest : State → Memory → Outcome RunReport)
     → whole ≡ after ran rest → ran_on a o whole ≡ after (ran_on a o ran) rest
 ran_on_after (Ok e) o ran whole rest is =
-    ap one_more_step is ∙ go_on_later ran.answer.steps ran.answer.refusal ran (rest ran.state ran.memory)
+    ap one_more_step is ∙ followed_by_later ran.answer.steps ran.answer.refusal ran (rest ran.state ran.memory)
 ran_on_after (Err e) o ran whole rest is = refl
 
 run_after : (a b levels : ℕ) (s : State) (m : Memory) → run_of (a + b) levels s m ≡ after (run_of a levels s m) (run_of b levels)

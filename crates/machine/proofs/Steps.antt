@@ -1,11 +1,11 @@
 -- One step, as its parts leave it.
-use Rattle.std.proofs.Common.{◌≡◌, ℕ, Bool, true, false, Some, Ok, Err, refl, sym, ap, ◌∙◌}
+use Rattle.std.proofs.Common.{◌≡◌, ℕ, Bool, true, false, Some, Ok, Err, refl, sym, ap, subst, ◌∙◌}
 use Rattle.bus.specs.Memory.{Memory}
 use Rattle.isa.specs.declared.instruction.Instruction.{Instruction}
 use Rattle.isa.specs.Decoding.{decode_of}
 use Rattle.csr.specs.Interrupts.{due}
 use Rattle.control.specs.declared.registers.Registers.{Registers}
-use Rattle.control.specs.Exceptions.{with_levels, beaten}
+use Rattle.control.specs.Exceptions.{with_levels, interrupted, beaten}
 use Rattle.actions.specs.declared.action.Action.{Action}
 use Rattle.actions.specs.Plan.{plan}
 use Rattle.machine.specs.declared.answers.Event.{Event}
@@ -13,6 +13,7 @@ use Rattle.machine.specs.declared.answers.StepRefusal.{StepRefusal}
 use Rattle.machine.specs.declared.state.State.{State}
 use Rattle.machine.specs.Outcomes.{Outcome, outcome, StepAnswer}
 use Rattle.machine.specs.Execution.{perform, decoded, execute}
+use Rattle.machine.specs.Isolation.{LeadsNowhere, FetchesNothing}
 use Rattle.machine.specs.Step.{at_levels, keeps_waiting, awake, by_waiting, act, acted, ended, step}
 use Rattle.machine.proofs.Coming.{Came, raises, goes, supervises, writes, unread, unwritten, execute_came}
 
@@ -67,3 +68,10 @@ module _ (s : State) (levels : ℕ) (m : Memory) where
       ∙ ap (λ u. outcome (Err e) (restored u) n) state
       ∙ ap (λ k. outcome (Err e) s k) memory
       ∙ sym (ap (λ a. ended s m a (acted s levels m)) answers)
+
+-- a step that fetches nothing, once the levels were taken
+pub without_fetch : (s : State) (levels : ℕ) (taken : Registers) → taken ≡ with_levels s.registers levels → FetchesNothing s levels
+    → keeps_waiting s.activity (due taken.interrupts) ≡ false → interrupted taken ≡ false → LeadsNowhere (record s { registers = taken })
+without_fetch s levels taken at nothing =
+    subst (λ (r : Registers). keeps_waiting s.activity (due r.interrupts) ≡ false → interrupted r ≡ false → LeadsNowhere (record s { registers = r }))
+    (sym at) (λ acts undisturbed from leads. nothing from (record { acts = acts; undisturbed = undisturbed; leads = leads }))

@@ -12,10 +12,10 @@ use Rattle.actions.specs.User.{virtual}
 use Rattle.machine.specs.declared.state.State.{State}
 
 -- a PC that is no multiple of 4 is ADEF, the address of a load or store that is none of its width ALE
-abbrev pub misaligned : AccessKind → ℕ → Exception
-misaligned Fetch at = Adef
-misaligned Load at = Ale (virtual at)
-misaligned Store at = Ale (virtual at)
+abbrev pub misalignment : AccessKind → ℕ → Exception
+misalignment Fetch at = Adef
+misalignment Load at = Ale (virtual at)
+misalignment Store at = Ale (virtual at)
 
 -- what the address is translated to in this state
 abbrev pub translated : State → AccessKind → ℕ → Result Place PageFault
@@ -28,7 +28,7 @@ placed at (Err fault) = Err (Page fault (virtual at))
 
 abbrev pub if_aligned : Bool → AccessKind → ℕ → Result Place PageFault → Result PhysAddr Exception
 if_aligned true kind at to = placed at to
-if_aligned false kind at to = Err (misaligned kind at)
+if_aligned false kind at to = Err (misalignment kind at)
 
 abbrev pub locate_word : State → AccessKind → ℕ → ℕ → Result PhysAddr Exception
 locate_word s kind width at = if_aligned (at % width == 0) kind at (translated s kind at)

@@ -11,7 +11,7 @@ use Rattle.pages.specs.declared.access_kind.AccessKind.TheVariants.{Load, Store}
 use Rattle.csr.specs.declared.exception.Exception.{Exception}
 use Rattle.csr.specs.Words.{bit}
 use Rattle.machine.specs.declared.state.State.{State}
-use Rattle.machine.specs.State.{onward, with_result}
+use Rattle.machine.specs.State.{advanced, with_result}
 use Rattle.machine.specs.Outcomes.{Outcome, StepAnswer, Settled, unasked, done, raise, refused}
 
 -- GR[rd] gets what was read
@@ -28,18 +28,18 @@ stored s after m (Ok n) = unasked (done after) n
 stored s after m (Err e) = refused s Store e m
 
 abbrev pub store_to : State → Memory → StoreOp → ℕ → PhysAddr → Outcome StepAnswer
-store_to s m op value place = stored s (onward s) m (write_of m place.0 (store_width op) value)
+store_to s m op value place = stored s (advanced s) m (write_of m place.0 (store_width op) value)
 
 abbrev pub with_link : State → Bool → State
 with_link s link = record s { registers = record s.registers { link = link } }
 
 -- LL.W: GR[rd] gets what was read, and the link is set
-abbrev pub linked : State → Memory → Reg → Result ℕ Refusal → Outcome StepAnswer
-linked s m rd (Ok value) = unasked (done (with_link (with_result s rd value) true)) m
-linked s m rd (Err e) = refused s Load e m
+abbrev pub loaded_linked : State → Memory → Reg → Result ℕ Refusal → Outcome StepAnswer
+loaded_linked s m rd (Ok value) = unasked (done (with_link (with_result s rd value) true)) m
+loaded_linked s m rd (Err e) = refused s Load e m
 
 abbrev pub load_linked_from : State → Memory → Reg → PhysAddr → Outcome StepAnswer
-load_linked_from s m rd place = linked s m rd (read_of m place.0 4)
+load_linked_from s m rd place = loaded_linked s m rd (read_of m place.0 4)
 
 -- GR[rd] gets the link as it was, and the link is cleared
 abbrev pub unlinked : State → Reg → State
@@ -52,5 +52,5 @@ store_conditional_to s m rd value false place = unasked (done (unlinked s rd)) m
 
 -- a CACOP of the Hit kind asks no bus
 abbrev pub probe : State → Result PhysAddr Exception → Settled
-probe s (Ok place) = done (onward s)
+probe s (Ok place) = done (advanced s)
 probe s (Err e) = raise s e

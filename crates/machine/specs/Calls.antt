@@ -16,12 +16,12 @@ use Rattle.machine.specs.declared.state.State.{State}
 use Rattle.machine.specs.Outcomes.{Outcome, outcome}
 use Rattle.machine.specs.Step.{run_of}
 
-abbrev pub taken : Outcome RunReport → Outcome (Result RunReport CallRefusal)
-taken o = outcome (Ok o.answer) o.state o.memory
+abbrev pub accepted : Outcome RunReport → Outcome (Result RunReport CallRefusal)
+accepted o = outcome (Ok o.answer) o.state o.memory
 
 abbrev pub by_length : Bool → ℕ → ℕ → State → Memory → Outcome (Result RunReport CallRefusal)
 by_length true count levels s m = outcome (Err RunTooLong) s m
-by_length false count levels s m = taken (run_of count levels s m)
+by_length false count levels s m = accepted (run_of count levels s m)
 
 -- a run of more than 65,536 steps is refused before anything
 abbrev pub run : State → ℕ → ℕ → Memory → Outcome (Result RunReport CallRefusal)

@@ -32,6 +32,14 @@ pub record Fetches (s : State) (levels : ℕ) (from : PhysAddr) : Type 0 where
   pub undisturbed : interrupted (at_levels s levels).registers ≡ false
   pub leads : locate s kind.Fetch 4 s.user.pc ≡ Ok from
 
+-- the PC leads to no physical address: it is no multiple of 4, or it is not translated
+abbrev pub LeadsNowhere : State → Type 0
+LeadsNowhere s = (from : PhysAddr) → locate s kind.Fetch 4 s.user.pc ≡ Ok from → ⊥
+
+-- the step that begins here fetches no instruction
+abbrev pub FetchesNothing : State → ℕ → Type 0
+FetchesNothing s levels = (from : PhysAddr) → Fetches s levels from → ⊥
+
 -- the instruction that it fetches asks for this
 pub record Does (s : State) (levels : ℕ) (m : Memory) (action : Action) : Type 0 where
   pub from : PhysAddr
@@ -92,7 +100,7 @@ abbrev pub StepIsolated : State → ℕ → Memory → Outcome StepAnswer → Ty
 StepIsolated s levels m left =
     (withheld : ℕ → Bool) (n : Memory) → Agree withheld m n → Withheld withheld s levels m → Alike withheld m n left (step s levels n)
 
--- no control register is altered but TVAL, ESTAT's IS and LLBCTL's link; the counter that goes with the timer is none
+-- no control register is altered but TVAL, ESTAT's IS and LLBCTL's link; the 64-bit counter, kept beside TVAL, is no control register
 abbrev pub OnlyTimerInterruptsAndLink : Registers → Registers → Type 0
 OnlyTimerInterruptsAndLink old new = new ≡ record old {
   timer = record old.timer { counter = new.timer.counter; tval = new.timer.tval };

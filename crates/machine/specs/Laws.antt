@@ -1,6 +1,7 @@
 -- Laws of steps and runs.
-use Rattle.std.specs.Prelude.{◌≡◌, ℕ, suc, ◌+◌, Bool, false, ◌⊎◌, Some, None, Option, Ok, Err}
-use Rattle.bus.specs.Memory.{Memory}
+use Rattle.std.specs.Prelude.{◌≡◌, ℕ, suc, ◌+◌, Bool, true, false, Some, None, Option, Ok, Err}
+use Rattle.bus.specs.Memory.{Memory, address, is_absent, is_fixed}
+use Rattle.pages.specs.declared.access_kind.AccessKind.TheVariants.{Store}
 use Rattle.pages.specs.declared.privilege.Privilege.TheVariants.{Plv0}
 use Rattle.csr.specs.declared.exception.Cause.TheVariants as cause
 use Rattle.machine.specs.declared.answers.Event.{Event}
@@ -8,14 +9,20 @@ use Rattle.machine.specs.declared.answers.Event.TheVariants.{Done, Waiting, Exce
 use Rattle.machine.specs.declared.answers.RunReport.{RunReport}
 use Rattle.machine.specs.declared.answers.StepRefusal.{StepRefusal}
 use Rattle.machine.specs.declared.state.State.{State}
-use Rattle.machine.specs.Answers.{step_refusal_number}
+use Rattle.machine.specs.Answers.{step_refusal_number, step_refusal_address}
 use Rattle.machine.specs.Isolation.{Asks, Withheld, Agree, Alike}
 use Rattle.machine.specs.Outcomes.{Outcome, StepAnswer}
 use Rattle.machine.specs.Step.{step, run_of}
 
--- a refused step was refused by the bus, with 8 or 9, and leaves core and memory as they were
+-- why the bus refuses a step, by number and address: a byte is absent, or it is fixed and was to be stored to
+pub data RefusedFor (m : Memory) (e : StepRefusal) : Type 0 where
+  missing : (x : ℕ) → is_absent (m x) ≡ true → step_refusal_number e ≡ 8 → step_refusal_address e ≡ Some (address x) → RefusedFor m e
+  unwritable : (x : ℕ) → is_fixed (m x) ≡ true → e.kind ≡ Store → step_refusal_number e ≡ 9 → step_refusal_address e ≡ Some (address x)
+      → RefusedFor m e
+
+-- a step that the bus refused leaves core and memory as they were
 pub record Refused (s : State) (m : Memory) (e : StepRefusal) (t : State) (n : Memory) : Type 0 where
-  pub number : (step_refusal_number e ≡ 8) ⊎ (step_refusal_number e ≡ 9)
+  pub reason : RefusedFor m e
   pub pc : e.pc ≡ s.user.pc
   pub state : t ≡ s
   pub memory : n ≡ m
@@ -41,12 +48,12 @@ pub record InterruptTaken (s : State) (levels : ℕ) (m : Memory) (o : Outcome S
   pub memory : o.memory ≡ m
 
 -- a run of k steps that was not cut short, and then a run from there; one that was cut short ends the whole
-abbrev pub go_on : ℕ → Option StepRefusal → Outcome RunReport → Outcome RunReport → Outcome RunReport
-go_on k None first rest = record rest { answer = record rest.answer { steps = k + rest.answer.steps } }
-go_on k (Some e) first rest = first
+abbrev pub followed_by : ℕ → Option StepRefusal → Outcome RunReport → Outcome RunReport → Outcome RunReport
+followed_by k None first rest = record rest { answer = record rest.answer { steps = k + rest.answer.steps } }
+followed_by k (Some e) first rest = first
 
 abbrev pub after : Outcome RunReport → (State → Memory → Outcome RunReport) → Outcome RunReport
-after first rest = go_on first.answer.steps first.answer.refusal first (rest first.state first.memory)
+after first rest = followed_by first.answer.steps first.answer.refusal first (rest first.state first.memory)
 
 -- a run of a + b steps is a run of a, and then one of b
 abbrev pub Splits : ℕ → ℕ → State → Memory → Outcome RunReport → Type 0

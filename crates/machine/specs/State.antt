@@ -15,8 +15,8 @@ abbrev pub goes_to : State → VirtAddr → State
 goes_to s next = record s { user = at_next s.user next }
 
 -- the next instruction follows
-abbrev pub onward : State → State
-onward s = goes_to s (next_pc s.user)
+abbrev pub advanced : State → State
+advanced s = goes_to s (next_pc s.user)
 
 -- GR[rd] gets a value, and the program goes on elsewhere
 abbrev pub with_write : State → Reg → ℕ → VirtAddr → State

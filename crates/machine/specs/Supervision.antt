@@ -19,7 +19,7 @@ use Rattle.actions.specs.declared.action.PrivilegedAction.TheVariants.{Csrrd, Cs
 use Rattle.actions.specs.User.{virtual, at_next}
 use Rattle.machine.specs.declared.state.Activity.TheVariants.{Waiting}
 use Rattle.machine.specs.declared.state.State.{State}
-use Rattle.machine.specs.State.{onward, with_result}
+use Rattle.machine.specs.State.{advanced, with_result}
 use Rattle.machine.specs.Outcomes.{Settled, done, raise}
 
 -- GR[rd] gets what the register read before
@@ -33,15 +33,15 @@ abbrev pub csr_exchanged : State → Reg → Option Csr → ℕ → ℕ → Stat
 csr_exchanged s rd csr value mask = with_result (record s { registers = csrxchg s.registers csr value mask }) rd (csrrd s.registers csr)
 
 abbrev pub tlb_done : State → TlbOp → State
-tlb_done s Tlbsrch = onward (record s { registers = searched s.registers s.tlb })
-tlb_done s Tlbrd = onward (record s { registers = entry_read s.registers (tlb.entry s.tlb s.registers.tlb_registers.index) })
-tlb_done s Tlbwr = onward (record s { tlb = tlb.written s.registers.tlb_registers.index (entry_to_write s.registers) s.tlb })
-tlb_done s Tlbfill = onward (record s { tlb = tlb.filled (entry_to_write s.registers) s.tlb })
+tlb_done s Tlbsrch = advanced (record s { registers = searched s.registers s.tlb })
+tlb_done s Tlbrd = advanced (record s { registers = entry_read s.registers (tlb.entry s.tlb s.registers.tlb_registers.index) })
+tlb_done s Tlbwr = advanced (record s { tlb = tlb.written s.registers.tlb_registers.index (entry_to_write s.registers) s.tlb })
+tlb_done s Tlbfill = advanced (record s { tlb = tlb.filled (entry_to_write s.registers) s.tlb })
 
 -- INVTLB: an op that names no invalidation is INE
 abbrev pub invalidate : State → Option Invalidation → Settled
 invalidate s None = raise s Ine
-invalidate s (Some which) = done (onward (record s { tlb = invalidated which s.tlb }))
+invalidate s (Some which) = done (advanced (record s { tlb = invalidated which s.tlb }))
 
 -- ERTN: the program goes on at ERA
 abbrev pub ertn : State → State
@@ -49,7 +49,7 @@ ertn s = record s { user = at_next s.user s.registers.era; registers = returned 
 
 -- IDLE: the next instruction follows, once an interrupt is due
 abbrev pub idle : State → State
-idle s = onward (record s { activity = Waiting })
+idle s = advanced (record s { activity = Waiting })
 
 abbrev pub supervise : State → PrivilegedAction → Settled
 supervise s (Csrrd rd csr) = done (csr_read s rd (csr_numbered csr))
@@ -59,7 +59,7 @@ supervise s (Tlb op) = done (tlb_done s op)
 supervise s (Invtlb op rj rk) = invalidate s (numbered op (rj % 2 ^ 10) (virtual rk))
 supervise s Ertn = done (ertn s)
 supervise s Idle = done (idle s)
-supervise s Cacop = done (onward s)
+supervise s Cacop = done (advanced s)
 
 -- the one place where privilege is asked for
 abbrev pub by_privilege : Privilege → State → PrivilegedAction → Settled

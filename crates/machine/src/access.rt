@@ -1,7 +1,7 @@
 // Where an access of the program leads.
 ghost use Rattle.std.specs.Prelude.{◌≡◌, ◌%◌, ◌==◌, true};
 ghost use Rattle.bus.specs.Memory.{is_width};
-ghost use Rattle.machine.specs.Access.{misaligned, locate};
+ghost use Rattle.machine.specs.Access.{misalignment, locate};
 
 use crate::state::State;
 use bus::PhysAddr;
@@ -21,8 +21,8 @@ fn is_aligned(width: u32, at: VirtAddr) -> bool
     }
 }
 
-fn misaligned(kind: AccessKind, at: VirtAddr) -> Exception
-    ensures { result ≡ misaligned kind at.0 }
+fn misalignment(kind: AccessKind, at: VirtAddr) -> Exception
+    ensures { result ≡ misalignment kind at.0 }
 {
     match kind {
         AccessKind::Fetch => Exception::Adef,
@@ -42,7 +42,7 @@ impl State {
         ensures { result ≡ locate self.now kind width at }
     {
         if !is_aligned(width, at) {
-            return Err(misaligned(kind, at));
+            return Err(misalignment(kind, at));
         }
         let registers = &self.registers;
         match translate(&registers.mode, &registers.windows, &self.tlb, kind, at) {

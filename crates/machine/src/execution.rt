@@ -1,8 +1,10 @@
 // The instruction at the PC is fetched and acts, unless an interrupt is taken.
-ghost use Rattle.std.specs.Prelude.{◌≡◌};
+ghost use Rattle.std.specs.Prelude.{◌≡◌, false};
+ghost use Rattle.control.specs.Exceptions.{interrupted};
 ghost use Rattle.isa.specs.Decoding.{decode_of};
-ghost use Rattle.machine.specs.Outcomes.{outcome, at_place};
-ghost use Rattle.machine.specs.Execution.{perform, decoded, fetch_from, fetch, execute};
+ghost use Rattle.machine.specs.Execution.{perform, decoded, fetch, execute};
+ghost use Rattle.machine.specs.Isolation.{LeadsNowhere};
+ghost use Rattle.machine.specs.Outcomes.{outcome};
 
 use crate::answers::{Event, StepRefusal};
 use crate::state::State;
@@ -18,22 +20,27 @@ impl State {
         ensures kept { B.layout bus.new ≡ B.layout bus.old }
     {
         match action {
-            Action::Write { rd, value, next } => self.user.write(rd, value, next),
-            Action::Go { next } => self.user.pc = next,
-            Action::Load { op, rd, at } => return self.load(bus, op, rd, at),
-            Action::Store { op, at, value } => return self.store(bus, op, at, value),
-            Action::LoadLinked { rd, at } => return self.load_linked(bus, rd, at),
-            Action::StoreConditional { rd, at, value } => {
-                return self.store_conditional(bus, rd, at, value);
+            Action::Write { rd, value, next } => {
+                self.user.write(rd, value, next);
+                Ok(Event::Done)
             }
-            Action::Probe { at } => return Ok(self.probe(at)),
-            Action::Raise(exception) => return Ok(self.raise(exception)),
-            Action::Privileged(action) => return Ok(self.by_privilege(action)),
+            Action::Go { next } => {
+                self.user.pc = next;
+                Ok(Event::Done)
+            }
+            Action::Load { op, rd, at } => self.load(bus, op, rd, at),
+            Action::Store { op, at, value } => self.store(bus, op, at, value),
+            Action::LoadLinked { rd, at } => self.load_linked(bus, rd, at),
+            Action::StoreConditional { rd, at, value } => {
+                self.store_conditional(bus, rd, at, value)
+            }
+            Action::Probe { at } => Ok(self.probe(at)),
+            Action::Raise(exception) => Ok(self.raise(exception)),
+            Action::Privileged(action) => Ok(self.by_privilege(action)),
         }
-        Ok(Event::Done)
     }
 
-    fn obey<B: Bus>(&mut self, bus: &mut B, word: u32) -> Result<Event, StepRefusal>
+    fn decode_and_perform<B: Bus>(&mut self, bus: &mut B, word: u32) -> Result<Event, StepRefusal>
         ensures value { outcome result self.new (B.byte bus.new) ≡ decoded self.old (B.byte bus.old) (decode_of word) }
         ensures kept { B.layout bus.new ≡ B.layout bus.old }
     {
@@ -49,10 +56,11 @@ impl State {
     fn fetch<B: Bus>(&mut self, bus: &mut B) -> Result<Event, StepRefusal>
         ensures value { outcome result self.new (B.byte bus.new) ≡ fetch self.old (B.byte bus.old) }
         ensures kept { B.layout bus.new ≡ B.layout bus.old }
+        ensures untouched { LeadsNowhere self.old → bus.new ≡ bus.old }
     {
         match self.locate(AccessKind::Fetch, 4, self.user.pc) {
             Ok(place) => match bus.read(Access::new(place, 4)) {
-                Ok(word) => self.obey(bus, word),
+                Ok(word) => self.decode_and_perform(bus, word),
                 Err(by_bus) => Err(self.refusal(AccessKind::Fetch, by_bus)),
             },
             Err(exception) => Ok(self.raise(exception)),
@@ -62,6 +70,7 @@ impl State {
     pub(crate) fn execute<B: Bus>(&mut self, bus: &mut B) -> Result<Event, StepRefusal>
         ensures value { outcome result self.new (B.byte bus.new) ≡ execute self.old (B.byte bus.old) }
         ensures kept { B.layout bus.new ≡ B.layout bus.old }
+        ensures untouched { (interrupted self.old.registers ≡ false → LeadsNowhere self.old) → bus.new ≡ bus.old }
     {
         if self.registers.is_interrupted() {
             Ok(self.raise(Exception::Int))

@@ -1,10 +1,11 @@
 // Loads and stores: alignment, then translation, then the bus.
 ghost use Rattle.std.specs.Prelude.{◌≡◌};
-ghost use Rattle.pages.specs.declared.access_kind.AccessKind.TheVariants.{Load, Store};
-ghost use Rattle.operations.specs.Operations.{load_width, store_width};
-ghost use Rattle.machine.specs.Outcomes.{settled, outcome, at_place};
+ghost use Rattle.pages.specs.declared.access_kind.AccessKind.TheVariants.{Load};
+ghost use Rattle.actions.specs.declared.action.Action.TheVariants as action;
 ghost use Rattle.machine.specs.Access.{locate};
-ghost use Rattle.machine.specs.Accesses.{load_from, store_to, load_linked_from, store_conditional_to, probe};
+ghost use Rattle.machine.specs.Accesses.{probe};
+ghost use Rattle.machine.specs.Execution.{perform};
+ghost use Rattle.machine.specs.Outcomes.{settled, outcome};
 
 use crate::answers::{Event, StepRefusal};
 use crate::state::State;
@@ -31,14 +32,14 @@ impl State {
         rd: Reg,
         at: VirtAddr,
     ) -> Result<Event, StepRefusal>
-        ensures value { outcome result self.new (B.byte bus.new) ≡ at_place self.old (B.byte bus.old) (load_from self.old (B.byte bus.old) op rd) (locate self.old Load (load_width op) at) }
+        ensures value { outcome result self.new (B.byte bus.new) ≡ perform self.old (B.byte bus.old) (action.Load op rd at) }
         ensures kept { B.layout bus.new ≡ B.layout bus.old }
     {
         let width = load_width(op);
         match self.locate(AccessKind::Load, width, at) {
             Ok(place) => match bus.read(Access::new(place, width)) {
                 Ok(value) => {
-                    self.give(rd, load_result(op, value));
+                    self.set_result(rd, load_result(op, value));
                     Ok(Event::Done)
                 }
                 Err(by_bus) => Err(self.refusal(AccessKind::Load, by_bus)),
@@ -54,14 +55,14 @@ impl State {
         at: VirtAddr,
         value: u32,
     ) -> Result<Event, StepRefusal>
-        ensures value { outcome result self.new (B.byte bus.new) ≡ at_place self.old (B.byte bus.old) (store_to self.old (B.byte bus.old) op value) (locate self.old Store (store_width op) at) }
+        ensures value { outcome result self.new (B.byte bus.new) ≡ perform self.old (B.byte bus.old) (action.Store op at value) }
         ensures kept { B.layout bus.new ≡ B.layout bus.old }
     {
         let width = store_width(op);
         match self.locate(AccessKind::Store, width, at) {
             Ok(place) => match bus.write(Access::new(place, width), value) {
                 Ok(()) => {
-                    self.go_on();
+                    self.advance();
                     Ok(Event::Done)
                 }
                 Err(by_bus) => Err(self.refusal(AccessKind::Store, by_bus)),
@@ -77,13 +78,13 @@ impl State {
         rd: Reg,
         at: VirtAddr,
     ) -> Result<Event, StepRefusal>
-        ensures value { outcome result self.new (B.byte bus.new) ≡ at_place self.old (B.byte bus.old) (load_linked_from self.old (B.byte bus.old) rd) (locate self.old Load 4 at) }
+        ensures value { outcome result self.new (B.byte bus.new) ≡ perform self.old (B.byte bus.old) (action.LoadLinked rd at) }
         ensures kept { B.layout bus.new ≡ B.layout bus.old }
     {
         match self.locate(AccessKind::Load, 4, at) {
             Ok(place) => match bus.read(Access::new(place, 4)) {
                 Ok(value) => {
-                    self.give(rd, value);
+                    self.set_result(rd, value);
                     self.registers.link = true;
                     Ok(Event::Done)
                 }
@@ -101,7 +102,7 @@ impl State {
         at: VirtAddr,
         value: u32,
     ) -> Result<Event, StepRefusal>
-        ensures value { outcome result self.new (B.byte bus.new) ≡ at_place self.old (B.byte bus.old) (store_conditional_to self.old (B.byte bus.old) rd value self.old.registers.link) (locate self.old Store 4 at) }
+        ensures value { outcome result self.new (B.byte bus.new) ≡ perform self.old (B.byte bus.old) (action.StoreConditional rd at value) }
         ensures kept { B.layout bus.new ≡ B.layout bus.old }
     {
         match self.locate(AccessKind::Store, 4, at) {
@@ -110,7 +111,7 @@ impl State {
                 if link && let Err(by_bus) = bus.write(Access::new(place, 4), value) {
                     return Err(self.refusal(AccessKind::Store, by_bus));
                 }
-                self.give(rd, u32::from(link));
+                self.set_result(rd, u32::from(link));
                 self.registers.link = false;
                 Ok(Event::Done)
             }
@@ -124,7 +125,7 @@ impl State {
     {
         match self.locate(AccessKind::Load, 1, at) {
             Ok(_) => {
-                self.go_on();
+                self.advance();
                 Event::Done
             }
             Err(exception) => self.raise(exception),

@@ -6,7 +6,7 @@ ghost use Rattle.machine.specs.declared.state.State.{State as TheState};
 ghost use Rattle.machine.specs.Outcomes.{outcome};
 ghost use Rattle.machine.specs.Step.{at_levels, step};
 ghost use Rattle.machine.specs.Calls.{run};
-ghost use Rattle.machine.specs.Isolation.{StepIsolated, Confined};
+ghost use Rattle.machine.specs.Isolation.{FetchesNothing, StepIsolated, Confined};
 ghost use Rattle.machine.specs.Laws.{Refused, IfException, HandlerBegins, InterruptTaken, Splits, RunPerforms, RunIsolated};
 
 use crate::answers::{CallRefusal, Event, RunReport, StepRefusal};
@@ -22,7 +22,10 @@ impl RunningCore {
         ensures value { outcome result self.new (B.byte bus.new) ≡ step self.old levels (B.byte bus.old) }
         ensures kept { B.layout bus.new ≡ B.layout bus.old }
 
-        // The bus refuses by 8 or 9, and then nothing changes.
+        // A step that fetches nothing, as one that waits or takes an interrupt, leaves the bus alone, with all that it keeps for itself.
+        ensures untouched { FetchesNothing self.old levels → bus.new ≡ bus.old }
+
+        // The bus refuses by 8 for a byte that is absent or by 9 for one that is fixed, and then nothing changes.
         ensures refused { IfErr result (λ e. Refused self.old (B.byte bus.old) e self.new (B.byte bus.new)) }
 
         // An exception begins its handler in PLV0 with IE 0, and ERA is the step's PC.
@@ -36,7 +39,7 @@ impl RunningCore {
         self.state.step(bus, levels)
     }
 
-    // As many steps, with the same levels, up to a refused one. A run longer than the longest is refused.
+    // Makes `count` steps with the same levels, or as many as come before a refused one.
     pub fn run<B: Bus>(
         &mut self,
         bus: &mut B,

@@ -8,15 +8,15 @@ use crate::state::State;
 use pages::VirtAddr;
 use std::marker::Model;
 
-#[derive(Drop)]
+#[derive(PartialEq, Eq, Debug, Drop)]
 pub struct UnresetCore;
 
-#[derive(Drop)]
+#[derive(PartialEq, Eq, Debug, Drop)]
 pub struct RunningCore {
     pub(crate) state: State,
 }
 
-#[derive(Drop)]
+#[derive(Clone, Copy, PartialEq, Eq, Debug)]
 pub struct ClosedCore {
     pc: VirtAddr,
     counter: u64,
@@ -29,6 +29,8 @@ impl Model for RunningCore {
     ghost Value = { State };
 
     ghost view = { λ core. core.state };
+
+    ghost inverse = { λ state. record { state = state } };
 }
 
 impl UnresetCore {

@@ -1,6 +1,6 @@
 // The state of a core that was reset.
 ghost use Rattle.std.specs.Prelude.{◌≡◌};
-ghost use Rattle.machine.specs.State.{reset_state, onward, with_result};
+ghost use Rattle.machine.specs.State.{reset_state, advanced, with_result};
 
 use actions::UserState;
 use control::Registers;
@@ -36,14 +36,14 @@ impl State {
     }
 
     // The next instruction follows.
-    pub(crate) fn go_on(&mut self)
-        ensures { self.new ≡ onward self.old }
+    pub(crate) fn advance(&mut self)
+        ensures { self.new ≡ advanced self.old }
     {
         self.user.pc = self.user.next_pc();
     }
 
     // GR[rd] gets the value, and the next instruction follows.
-    pub(crate) fn give(&mut self, rd: Reg, value: u32)
+    pub(crate) fn set_result(&mut self, rd: Reg, value: u32)
         ensures { self.new ≡ with_result self.old rd value }
     {
         let next = self.user.next_pc();

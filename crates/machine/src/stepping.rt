@@ -1,7 +1,10 @@
 // One step, and a run of steps.
-ghost use Rattle.std.specs.Prelude.{◌≡◌};
+ghost use Rattle.std.specs.Prelude.{◌≡◌, false};
+ghost use Rattle.csr.specs.Interrupts.{due};
+ghost use Rattle.control.specs.Exceptions.{interrupted};
+ghost use Rattle.machine.specs.Isolation.{LeadsNowhere, FetchesNothing};
 ghost use Rattle.machine.specs.Outcomes.{outcome};
-ghost use Rattle.machine.specs.Step.{act, step, run_of};
+ghost use Rattle.machine.specs.Step.{keeps_waiting, act, step, run_of};
 
 use crate::answers::{Event, RunReport, StepRefusal};
 use crate::state::{Activity, State};
@@ -12,6 +15,7 @@ impl State {
     fn act<B: Bus>(&mut self, bus: &mut B) -> Result<Event, StepRefusal>
         ensures value { outcome result self.new (B.byte bus.new) ≡ act self.old (B.byte bus.old) }
         ensures kept { B.layout bus.new ≡ B.layout bus.old }
+        ensures untouched { (keeps_waiting self.old.activity (due self.old.registers.interrupts) ≡ false → interrupted self.old.registers ≡ false → LeadsNowhere self.old) → bus.new ≡ bus.old }
     {
         match (self.activity, self.registers.interrupts.is_due()) {
             (Activity::Waiting, false) => Ok(Event::Waiting),
@@ -26,6 +30,7 @@ impl State {
     pub(crate) fn step<B: Bus>(&mut self, bus: &mut B, levels: u8) -> Result<Event, StepRefusal>
         ensures value { outcome result self.new (B.byte bus.new) ≡ step self.old levels (B.byte bus.old) }
         ensures kept { B.layout bus.new ≡ B.layout bus.old }
+        ensures untouched { FetchesNothing self.old levels → bus.new ≡ bus.old }
     {
         let old_levels = self.registers.interrupts.pending.hwi;
         let old_activity = self.activity;

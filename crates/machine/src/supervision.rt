@@ -19,21 +19,21 @@ impl State {
         ensures { self.new ≡ csr_read self.old rd (csr_numbered csr) }
     {
         let old = self.registers.csrrd(csr);
-        self.give(rd, old);
+        self.set_result(rd, old);
     }
 
     fn csrwr(&mut self, rd: Reg, csr: u32, value: u32)
         ensures { self.new ≡ csr_written self.old rd (csr_numbered csr) value }
     {
         let old = self.registers.csrwr(csr, value);
-        self.give(rd, old);
+        self.set_result(rd, old);
     }
 
     fn csrxchg(&mut self, rd: Reg, csr: u32, value: u32, mask: u32)
         ensures { self.new ≡ csr_exchanged self.old rd (csr_numbered csr) value mask }
     {
         let old = self.registers.csrxchg(csr, value, mask);
-        self.give(rd, old);
+        self.set_result(rd, old);
     }
 
     fn tlb(&mut self, op: TlbOp)
@@ -45,7 +45,7 @@ impl State {
             TlbOp::Tlbwr => self.registers.tlbwr(&mut self.tlb),
             TlbOp::Tlbfill => self.registers.tlbfill(&mut self.tlb),
         }
-        self.go_on();
+        self.advance();
     }
 
     fn invtlb(&mut self, op: u32, rj: u32, rk: u32) -> Event
@@ -54,7 +54,7 @@ impl State {
         match Invalidation::numbered(op, rj, rk) {
             Some(which) => {
                 self.tlb.invalidate(which);
-                self.go_on();
+                self.advance();
                 Event::Done
             }
             None => self.raise(Exception::Ine),
@@ -71,7 +71,7 @@ impl State {
         ensures { self.new ≡ idle self.old }
     {
         self.activity = Activity::Waiting;
-        self.go_on();
+        self.advance();
     }
 
     fn supervise(&mut self, action: PrivilegedAction) -> Event
@@ -90,7 +90,7 @@ impl State {
             PrivilegedAction::Invtlb { op, rj, rk } => return self.invtlb(op, rj, rk),
             PrivilegedAction::Ertn => self.ertn(),
             PrivilegedAction::Idle => self.idle(),
-            PrivilegedAction::Cacop => self.go_on(),
+            PrivilegedAction::Cacop => self.advance(),
         }
         Event::Done
     }

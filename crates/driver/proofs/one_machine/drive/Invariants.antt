@@ -1,6 +1,6 @@
 use Rattle.std.proofs.Common.{◌≡◌, ◌≤◌, ◌++◌, length, drop, vec_items, vec_len, vec_capacity}
 use Rattle.driver.specs.Calls.{drive_of}
-use Rattle.driver.proofs.one_machine.perform_each.Given as goal
+use Rattle.driver.proofs.one_machine.drive.Given as goal
 
 -- what the calls that are left answer and leave is what all calls do, behind the answers so far
 abbrev pub invariant-loop-call : goal.invariant-loop-call
