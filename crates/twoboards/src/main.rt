@@ -29,7 +29,7 @@ const LEFT_BOOK: [u32; 4] = [0x0007_0138, 0x000c_002d, 0x0003_03fc, 0x0019_0004]
 
 const RIGHT_BOOK: [u32; 4] = [0x0001_0200, 0x0002_0013, 0x0005_0007, 0x0011_0090];
 
-// Two of the runs and read-outs are refused. A step with levels that nothing enables finds the core waiting.
+// One run and three read-outs are refused. A step with levels that nothing enables finds the core waiting.
 const CALLS: [Call; 17] = [
     Call::Reset,
     Call::Run {
@@ -73,13 +73,13 @@ fn run(rt: &HostRuntime) -> anyhow::Result<()> {
         &images::PROGRAM,
     )?;
     load_rom(&mut rom)?;
-    let fixed = Split::new(ROM, Bank::new(PROGRAM, &mut program), Image::new(ROM, &rom));
-    let left = Split::new(PROGRAM, Bank::new(PAGE, &mut pages), fixed);
-    with_left(rt, left)
+    let upper = Split::new(ROM, Bank::new(PROGRAM, &mut program), Image::new(ROM, &rom));
+    let mut left = Split::new(PROGRAM, Bank::new(PAGE, &mut pages), upper);
+    beside(rt, &mut left)
 }
 
 // On the right a bank for each page, the program's shifted to its place, and the ROM a locked bank.
-fn with_left<L: Bus + Drop>(rt: &HostRuntime, mut left: L) -> anyhow::Result<()> {
+fn beside<L: Bus>(rt: &HostRuntime, left: &mut L) -> anyhow::Result<()> {
     let mut page = [0u8; PAGE_BYTES];
     let mut book = [0u8; PAGE_BYTES];
     let mut program = [0u8; PAGE_BYTES];
@@ -103,7 +103,7 @@ fn with_left<L: Bus + Drop>(rt: &HostRuntime, mut left: L) -> anyhow::Result<()>
         Split::new(ROM, shifted, locked),
     );
     let mut right = Split::new(BOOK, Bank::new(PAGE, &mut page), upper);
-    compare(rt, &mut left, &mut right)
+    compare(rt, left, &mut right)
 }
 
 fn load_rom(rom: &mut [u8]) -> Result<(), Refusal> {
@@ -149,7 +149,8 @@ fn compare<L: Bus, R: Bus>(
         show::answer(rt, one)?;
         show::answer(rt, other)?;
     }
-    println!(rt; "equal: {}", left_answers == right_answers)?;
+    println!(rt; "answers equal: {}", left_answers == right_answers)?;
+    println!(rt; "cores equal: {}", left == right)?;
     show::book(rt, "left book after", left_board, BOOK)?;
     show::book(rt, "right book after", right_board, BOOK)?;
     Ok(())
