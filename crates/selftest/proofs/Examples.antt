@@ -36,24 +36,24 @@ abbrev by_fetch : State → Memory → Result ℕ Refusal → Outcome StepAnswer
 by_fetch s m r = ended s m (fetched (begun s) m r).answer (fetched (begun s) m r)
 
 -- what the steps of the first program leave
-abbrev sum_1 : State
+abbrev pub sum_1 : State
 sum_1 = with_beat (with_write (begun reset_state) (reg_of 4) 0xffffffff (virtual 0x1c000004))
 
-abbrev sum_2 : State
+abbrev pub sum_2 : State
 sum_2 = with_beat (with_write (begun sum_1) (reg_of 5) 0xfffffffe (virtual 0x1c000008))
 
-abbrev sum_3 : State
+abbrev pub sum_3 : State
 sum_3 = with_beat (goes_to (begun sum_2) (virtual 0x1c000008))
 
-sum_step_1 : (m : Memory) → HoldsWord m 0x1c000000 0x02bffc04 → step reset_state 0 m ≡ outcome (Ok event.Done) sum_1 m
+pub sum_step_1 : (m : Memory) → HoldsWord m 0x1c000000 0x02bffc04 → step reset_state 0 m ≡ outcome (Ok event.Done) sum_1 m
 unfolding step decode_of
 sum_step_1 m holds = ap (by_fetch reset_state m) holds
 
-sum_step_2 : (m : Memory) → HoldsWord m 0x1c000004 0x00101085 → step sum_1 0 m ≡ outcome (Ok event.Done) sum_2 m
+pub sum_step_2 : (m : Memory) → HoldsWord m 0x1c000004 0x00101085 → step sum_1 0 m ≡ outcome (Ok event.Done) sum_2 m
 unfolding step decode_of
 sum_step_2 m holds = ap (by_fetch sum_1 m) holds
 
-sum_step_3 : (m : Memory) → HoldsWord m 0x1c000008 0x50000000 → step sum_2 0 m ≡ outcome (Ok event.Done) sum_3 m
+pub sum_step_3 : (m : Memory) → HoldsWord m 0x1c000008 0x50000000 → step sum_2 0 m ≡ outcome (Ok event.Done) sum_3 m
 unfolding step decode_of
 sum_step_3 m holds = ap (by_fetch sum_2 m) holds
 

@@ -1,2 +1,3 @@
 pub mod Addition
 pub mod Examples
+pub mod Reach

@@ -2,6 +2,7 @@
 ghost use Rattle.std.specs.Prelude.{◌≡◌};
 ghost use Rattle.selftest.specs.Addition.{HoldsAddition, the_sum};
 ghost use Rattle.selftest.specs.Examples.{WorkedExamples};
+ghost use Rattle.selftest.specs.Reach.{Reach};
 
 use bus::Bus;
 use machine::UnresetCore;
@@ -19,8 +20,9 @@ pub fn add_up<B: Bus>(bus: &mut B) -> Sum
     ensures sum { HoldsAddition (B.byte bus.old) → result ≡ the_sum }
     ensures kept { B.layout bus.new ≡ B.layout bus.old }
 
-    // The check asks for no theorem outside a contract, so this call carries the one on the definitions.
+    // The check asks for no theorem outside a contract, so this call carries those on the definitions.
     ensures examples { WorkedExamples }
+    ensures reach { Reach }
 {
     let mut core = UnresetCore.reset();
     let _ = core.run(bus, 3, 0);

@@ -4,3 +4,6 @@
 pub mod addition;
 
 pub use addition::{Sum, add_up};
+
+#[cfg(test)]
+mod tests;

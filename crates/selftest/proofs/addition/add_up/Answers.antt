@@ -1,5 +1,6 @@
 use Rattle.std.proofs.Common.{rules}
 use Rattle.selftest.proofs.Examples.{summed, worked_examples}
+use Rattle.selftest.proofs.Reach.{reach}
 use Rattle.selftest.proofs.addition.add_up.Goals as goal
 
 pub returns-clause-sum : goal.returns-clause-sum
@@ -9,3 +10,6 @@ returns-clause-sum g c holds =
 
 pub returns-clause-examples : goal.returns-clause-examples
 returns-clause-examples g c = worked_examples
+
+pub returns-clause-reach : goal.returns-clause-reach
+returns-clause-reach g c = reach
