@@ -16,7 +16,7 @@ pub struct RunningCore {
     pub(crate) state: State,
 }
 
-#[derive(Clone, Copy, PartialEq, Eq, Debug)]
+#[derive(PartialEq, Eq, Debug, Drop)]
 pub struct ClosedCore {
     pc: VirtAddr,
     counter: u64,
