@@ -16,7 +16,7 @@ use Rattle.actions.specs.declared.action.Action.{Action}
 use Rattle.actions.specs.declared.action.Action.TheVariants as action
 use Rattle.actions.specs.declared.action.PrivilegedAction.TheVariants as privileged
 use Rattle.actions.specs.declared.user.UserState.{UserState}
-use Rattle.actions.specs.Registers.{gr, link_register}
+use Rattle.actions.specs.Registers.{gr, return_register}
 use Rattle.actions.specs.User.{next_pc}
 use Rattle.actions.specs.Addresses.{by_si12, by_si14, by_register, by_offset}
 
@@ -25,8 +25,8 @@ abbrev pub result_action : UserState → Reg → ℕ → Action
 result_action u rd value = action.Write rd value (next_pc u)
 
 -- GR[rd] gets the address of the next instruction, and the program goes on elsewhere
-abbrev pub linked : UserState → Reg → VirtAddr → Action
-linked u rd next = action.Write rd (next_pc u).0 next
+abbrev pub jump_and_link : UserState → Reg → VirtAddr → Action
+jump_and_link u rd next = action.Write rd (next_pc u).0 next
 
 abbrev pub nop : UserState → Action
 nop u = action.Go (next_pc u)
@@ -75,9 +75,9 @@ plan u t (Store op rd rj si12) = action.Store op (by_si12 u rj si12) (gr u.gener
 plan u t (Preld hint rj si12) = nop u
 plan u t (Dbar hint) = nop u
 plan u t (Ibar hint) = nop u
-plan u t (Jirl rd rj offs16) = linked u rd (by_register u rj offs16)
+plan u t (Jirl rd rj offs16) = jump_and_link u rd (by_register u rj offs16)
 plan u t (B offs26) = action.Go (by_offset 26 u offs26)
-plan u t (Bl offs26) = linked u link_register (by_offset 26 u offs26)
+plan u t (Bl offs26) = jump_and_link u return_register (by_offset 26 u offs26)
 plan u t (Branch op rj rd offs16) = branch u op rj rd offs16
 
 abbrev pub is_privileged : Action → Bool

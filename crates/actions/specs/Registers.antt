@@ -14,6 +14,6 @@ gr g r = slice_index_or g r.index 0
 abbrev pub with_gr : List ℕ → Reg → ℕ → List ℕ
 with_gr g r value = cond (r.index == 0) g (slice_set g r.index value)
 
--- r1, which BL links
-abbrev pub link_register : Reg
-link_register = reg_of 1
+-- r1, in which BL puts the address of the next instruction
+abbrev pub return_register : Reg
+return_register = reg_of 1

@@ -3,8 +3,8 @@ use csr::Exception;
 use isa::{LoadOp, Reg, StoreOp, TlbOp};
 use pages::VirtAddr;
 
-// An address in an action is the program's own: only the step translates it and asks the bus. And what any program may do alters the
-// general registers, the PC, memory and the link alone, unless it raises an exception.
+// An address in an action is the program's own: only the step translates it and asks the bus. An action that is not privileged
+// alters the general registers, the PC, memory and the link alone, unless it is an exception.
 #[derive(Clone, Copy, PartialEq, Eq, Debug)]
 pub enum Action {
     // GR[rd] gets the value, and the program goes on at `next`.

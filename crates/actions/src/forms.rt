@@ -5,7 +5,7 @@ ghost use Rattle.actions.specs.declared.action.Action.TheVariants as action;
 ghost use Rattle.actions.specs.declared.action.PrivilegedAction.TheVariants as privileged;
 ghost use Rattle.actions.specs.Registers.{gr};
 ghost use Rattle.actions.specs.Addresses.{by_si12, by_si14, by_offset};
-ghost use Rattle.actions.specs.Plan.{result_action, linked, nop, counter_half, branch, csrwr, csrxchg, cacop, invtlb};
+ghost use Rattle.actions.specs.Plan.{result_action, jump_and_link, nop, counter_half, branch, csrwr, csrxchg, cacop, invtlb};
 
 use crate::action::{Action, PrivilegedAction};
 use crate::user::UserState;
@@ -43,9 +43,9 @@ impl UserState {
         }
     }
 
-    // BL and JIRL: the link is the address of the next instruction.
-    pub(crate) fn linked(&self, rd: Reg, next: VirtAddr) -> Action
-        ensures { result ≡ linked self.now rd next }
+    // BL and JIRL: rd gets the address of the next instruction.
+    pub(crate) fn jump_and_link(&self, rd: Reg, next: VirtAddr) -> Action
+        ensures { result ≡ jump_and_link self.now rd next }
     {
         Action::Write {
             rd,

@@ -5,7 +5,7 @@ ghost use Rattle.actions.specs.Plan.{plan, is_privileged};
 
 use crate::action::{Action, PrivilegedAction};
 use crate::forms::{counter_half, csrrd};
-use crate::registers::link_register;
+use crate::registers::return_register;
 use crate::user::UserState;
 use csr::{Exception, Timer};
 use isa::Instruction as In;
@@ -38,9 +38,9 @@ impl UserState {
             In::Load { op, rd, rj, si12 } => self.load(op, rd, rj, si12),
             In::Store { op, rd, rj, si12 } => self.store(op, rd, rj, si12),
             In::Preld { .. } | In::Dbar { .. } | In::Ibar { .. } => self.nop(),
-            In::Jirl { rd, rj, offs16 } => self.linked(rd, self.by_register(rj, offs16)),
+            In::Jirl { rd, rj, offs16 } => self.jump_and_link(rd, self.by_register(rj, offs16)),
             In::B { offs26 } => self.jump(offs26),
-            In::Bl { offs26 } => self.linked(link_register(), self.by_offset(offs26)),
+            In::Bl { offs26 } => self.jump_and_link(return_register(), self.by_offset(offs26)),
             In::Branch { op, rj, rd, offs16 } => self.branch(op, rj, rd, offs16),
         }
     }

@@ -1,6 +1,6 @@
 // The general registers.
 ghost use Rattle.std.specs.Prelude.{◌≡◌};
-ghost use Rattle.actions.specs.Registers.{reset_registers, gr, with_gr, link_register};
+ghost use Rattle.actions.specs.Registers.{reset_registers, gr, with_gr, return_register};
 
 use isa::Reg;
 use std::marker::Model;
@@ -23,9 +23,9 @@ impl Model for GeneralRegisters {
     ghost inverse = { λ list. record { values = list } };
 }
 
-// r1, which BL links.
-pub(crate) fn link_register() -> Reg
-    ensures { result ≡ link_register }
+// r1, in which BL puts the address of the next instruction.
+pub(crate) fn return_register() -> Reg
+    ensures { result ≡ return_register }
 {
     Reg::of_low_bits(1)
 }

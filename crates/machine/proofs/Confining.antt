@@ -14,9 +14,6 @@ use Rattle.machine.proofs.Coming.{Came, raises, goes, supervises, writes, unread
 use Rattle.machine.proofs.Reaching.{byte_reached}
 
 module _ (s : State) (levels : ℕ) (m : Memory) (user : s.registers.mode.plv ≡ Plv3) where
-  acting : State
-  acting = awake (at_levels s levels)
-
   abbrev Fine : Outcome StepAnswer → Type 0
   Fine o = (ended s m o.answer o).state.registers.mode.plv ≡ Plv3 → UserStep s m (ended s m o.answer o)
 

@@ -61,7 +61,7 @@ supervise s Ertn = done (ertn s)
 supervise s Idle = done (idle s)
 supervise s Cacop = done (advanced s)
 
--- the one place where privilege is asked for
+-- the one place where an action's privilege is tested; that of a page is tested in translation
 abbrev pub by_privilege : Privilege → State → PrivilegedAction → Settled
 by_privilege Plv0 s action = supervise s action
 by_privilege Plv3 s action = raise s Ipe

@@ -9,7 +9,7 @@ use csr::Exception;
 use pages::{AccessKind, VirtAddr};
 use translation::translate;
 
-// By cases, so that no division is left for an access.
+// By cases, so that the code divides by constants alone.
 fn is_aligned(width: u32, at: VirtAddr) -> bool
     requires { is_width width ≡ true }
     ensures { result ≡ (at.0 % width == 0) }
@@ -31,7 +31,7 @@ fn misalignment(kind: AccessKind, at: VirtAddr) -> Exception
 }
 
 impl State {
-    // There being no cache, how the memory is accessed makes no difference.
+    // The access type is not used, there being no cache.
     pub(crate) fn locate(
         &self,
         kind: AccessKind,

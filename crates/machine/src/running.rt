@@ -25,7 +25,8 @@ impl RunningCore {
         // A step that fetches nothing, as one that waits or takes an interrupt, leaves the bus alone, with all that it keeps for itself.
         ensures untouched { FetchesNothing self.old levels → bus.new ≡ bus.old }
 
-        // The bus refuses by 8 for a byte that is absent or by 9 for one that is fixed, and then nothing changes.
+        // The bus refuses by 8 for a byte that is absent or by 9 for one that is fixed and was to be stored to; then core and
+        // memory stay as they were.
         ensures refused { IfErr result (λ e. Refused self.old (B.byte bus.old) e self.new (B.byte bus.new)) }
 
         // An exception begins its handler in PLV0 with IE 0, and ERA is the step's PC.

@@ -95,7 +95,7 @@ impl State {
         Event::Done
     }
 
-    // The one place where privilege is asked for.
+    // The one place where an action's privilege is tested; that of a page is tested in translation.
     pub(crate) fn by_privilege(&mut self, action: PrivilegedAction) -> Event
         ensures { settled result self.new ≡ by_privilege self.old.registers.mode.plv self.old action }
     {

@@ -20,7 +20,7 @@ pub fn add_up<B: Bus>(bus: &mut B) -> Sum
     ensures sum { HoldsAddition (B.byte bus.old) → result ≡ the_sum }
     ensures kept { B.layout bus.new ≡ B.layout bus.old }
 
-    // The check asks for no theorem outside a contract, so this call carries those on the definitions.
+    // A theorem over definitions is checked only where a contract cites it, so this call's contract cites these two.
     ensures examples { WorkedExamples }
     ensures reach { Reach }
 {

@@ -1,8 +1,8 @@
 // What the memories hold when the machines begin: words with the instruction that each is.
 
 // At the reset address. The handlers' addresses go to EENTRY and TLBRENTRY. TLB entry 0 maps two pages of 4 KiB at 0x800000, the first
-// for every program and the second, a formula book, for the supervisor alone; entry 1 maps one of 2 MiB at 0x400000, which holds the
-// program and cannot be stored to. A window of PLV0 keeps the supervisor's own addresses as they are.
+// for PLV3 too and the second, a formula book, for PLV0 alone; entry 1 maps one of 2 MiB at 0x400000, which holds the program and
+// cannot be stored to. A window keeps addresses below 0x20000000 as they are in PLV0. Then the program starts in PLV3.
 pub(crate) const START: [u32; 33] = [
     0x1438_0004, // lu12i.w r4, 114688
     0x0384_0085, // ori r5, r4, 256
@@ -39,7 +39,8 @@ pub(crate) const START: [u32; 33] = [
     0x0648_3800, // ertn
 ];
 
-// For every exception but a refill. A SYSCALL goes on behind it; after any other the core waits.
+// For every exception but a refill: r20 gets ESTAT, r21 BADV, r22 ERA and r23 Ecode. After a SYSCALL the program goes on at the next
+// instruction; after any other exception the core waits.
 pub(crate) const HANDLER: [u32; 10] = [
     0x0400_1414, // csrrd r20, 0x0005
     0x0400_1c15, // csrrd r21, 0x0007
@@ -53,7 +54,7 @@ pub(crate) const HANDLER: [u32; 10] = [
     0x0648_3800, // ertn
 ];
 
-// For a refill: the address that is not mapped goes to r25, and the access is passed over.
+// For a refill: the address that is not mapped goes to r25, and the access is passed over, by way of r22.
 pub(crate) const REFILL: [u32; 5] = [
     0x0400_1c19, // csrrd r25, 0x0007
     0x0400_1816, // csrrd r22, 0x0006

@@ -1,5 +1,5 @@
-//! Two dispensers on boards of different kinds, whose formula books differ, are given the same calls: a supervisor maps two pages and
-//! starts a maker's program, which computes a tint and then tries to read another maker's formula book.
+//! Two machines on boards of different kinds, whose formula books differ, are given the same calls. The supervisor maps a maker's program, a
+//! page for its data and, for itself alone, another maker's formula book. The program computes a tint and then tries to read the book.
 #![tactic(auto)]
 
 mod images;
@@ -24,7 +24,7 @@ const PAGE_BYTES: usize = 0x1000;
 
 const ROM_BYTES: usize = 0x200;
 
-// Each maker's own.
+// The formula book on the left board, and that on the right.
 const LEFT_BOOK: [u32; 4] = [0x0007_0138, 0x000c_002d, 0x0003_03fc, 0x0019_0004];
 
 const RIGHT_BOOK: [u32; 4] = [0x0001_0200, 0x0002_0013, 0x0005_0007, 0x0011_0090];
@@ -61,7 +61,7 @@ fn main(rt: HostRuntime) -> anyhow::Result<()> {
 }
 
 fn run(rt: &HostRuntime) -> anyhow::Result<()> {
-    // On the left one bank for both pages, and a ROM image.
+    // On the left one bank for the page and the book, a bank for the program and a ROM image.
     let mut pages = [0u8; 2 * PAGE_BYTES];
     let mut program = [0u8; PAGE_BYTES];
     let mut rom = [0u8; ROM_BYTES];
@@ -75,11 +75,11 @@ fn run(rt: &HostRuntime) -> anyhow::Result<()> {
     load_rom(&mut rom)?;
     let upper = Split::new(ROM, Bank::new(PROGRAM, &mut program), Image::new(ROM, &rom));
     let mut left = Split::new(PROGRAM, Bank::new(PAGE, &mut pages), upper);
-    beside(rt, &mut left)
+    with_right_board(rt, &mut left)
 }
 
 // On the right a bank for each page, the program's shifted to its place, and the ROM a locked bank.
-fn beside<L: Bus>(rt: &HostRuntime, left: &mut L) -> anyhow::Result<()> {
+fn with_right_board<L: Bus>(rt: &HostRuntime, left: &mut L) -> anyhow::Result<()> {
     let mut page = [0u8; PAGE_BYTES];
     let mut book = [0u8; PAGE_BYTES];
     let mut program = [0u8; PAGE_BYTES];
@@ -123,7 +123,7 @@ fn load<B: Bus>(bus: &mut B, at: PhysAddr, words: &[u32]) -> Result<(), Refusal>
     Ok(())
 }
 
-// Gives both machines the calls, and prints what they answer and what the withheld bytes are before and after.
+// Gives both machines the calls, and prints what they answer and the first words of both books before and after.
 fn compare<L: Bus, R: Bus>(
     rt: &HostRuntime,
     left_board: &mut L,
