@@ -1,11 +1,12 @@
 -- The laws of a step.
-use Rattle.std.proofs.Common.{◌≡◌, ℕ, zero, suc, ◌%◌, ◌^◌, Bool, true, false, ◌⊎◌, inl, inr, Some, None, Option, Ok, Err, Result, IfOk, IfErr, refl, sym, ap, subst, ◌∙◌, arith, eqb, cond, ⊎_elim}
-use Rattle.std.proofs.lemmas.Bool.{cond-true, both_ways, and_from, and_parts, eq-eqb}
+use Rattle.std.proofs.Common.{◌≡◌, ℕ, ◌%◌, ◌^◌, Bool, true, false, ◌⊎◌, inl, inr, Some, None, Option, Ok, Err, Result, IfOk, IfErr, refl, sym, ap, subst, ◌∙◌, arith}
+use Rattle.std.proofs.lemmas.Bool.{both_ways, and_parts}
 use Rattle.bus.specs.declared.address.PhysAddr.{PhysAddr}
 use Rattle.bus.specs.declared.refusal.Refusal.{Refusal}
-use Rattle.bus.specs.declared.refusal.Refusal.TheVariants.{Absent, Fixed}
-use Rattle.bus.specs.Cell.{Cell}
-use Rattle.bus.specs.Memory.{Memory, address, is_width, aligned, is_absent, is_fixed, unless_any, value_at, read_of, write_of, put}
+use Rattle.bus.specs.Rules.{Stands, ReadRule, WriteRule}
+use Rattle.bus.specs.Rules as rule
+use Rattle.bus.proofs.Ruling.{read_rule, write_rule}
+use Rattle.bus.specs.Memory.{Sound, answer_of, memory_after, Memory, is_width, read_of, write_of}
 use Rattle.bus.specs.Refusals.{refusal_number, refusal_address}
 use Rattle.pages.specs.declared.address.VirtAddr.{VirtAddr}
 use Rattle.pages.specs.declared.access_kind.AccessKind.{AccessKind}
@@ -36,22 +37,6 @@ use Rattle.machine.proofs.Reaching.{word_of, Located, located, wide}
 use Rattle.machine.proofs.Confining.{confined}
 use Rattle.machine.proofs.Alikes.{step_isolated}
 
-module _ (m : Memory) (p : Cell → Bool) (to : PhysAddr → Refusal) (e : Refusal) where
-  -- a cell of which p is true is why a scan refuses
-  abbrev Found : Type 0
-  Found = (x : ℕ) × ((p (m x) ≡ true) × (e ≡ to (address x)))
-
-  here_or_later : {X : Type 0} (a : ℕ) (b : Bool) (later : Result X Refusal) (r : Result X Refusal) → p (m a) ≡ b
-      → cond b (Err (to (address a))) later ≡ Err e → (later ≡ Err e → Found ⊎ (r ≡ Err e)) → Found ⊎ (r ≡ Err e)
-  here_or_later a true later r found is rest = let same : to (address a) ≡ e = cc in inl (a, (found, sym same))
-  here_or_later a false later r found is rest = rest is
-
-  -- a scan that refuses does so for such a cell
-  scan_refuses : {X : Type 0} (a w : ℕ) (r : Result X Refusal) → unless_any p to m a w r ≡ Err e → Found ⊎ (r ≡ Err e)
-  scan_refuses a zero r is = inr is
-  scan_refuses a (suc w) r is =
-      here_or_later a (p (m a)) (unless_any p to m (suc a) w r) r refl is (scan_refuses (suc a) w r)
-
 same_multiple : (p at w : ℕ) → (w ≡ 1) ⊎ ((w ≡ 2) ⊎ (w ≡ 4)) → p % 2 ^ 12 ≡ at % 2 ^ 12 → at % w ≡ 0 → p % w ≡ 0
 same_multiple p at w (inl one) same even = subst (λ (n : ℕ). p % n ≡ 0) (sym one) (omega arith)
 same_multiple p at w (inr (inl two)) same even =
@@ -61,34 +46,38 @@ same_multiple p at w (inr (inr four)) same even =
     let here : at % 4 ≡ 0 = subst (λ (n : ℕ). at % n ≡ 0) four even in
     subst (λ (n : ℕ). p % n ≡ 0) (sym four) (omega arith)
 
--- where an access leads it is aligned
-place_aligned : (s : State) (k : AccessKind) (w : ℕ) (at : VirtAddr) (to : PhysAddr) → is_width w ≡ true → locate s k w at ≡ Ok to → aligned to.0 w ≡ true
-place_aligned s k w at to is_wide is =
+-- where an access leads, it is aligned too
+place_stands : (s : State) (k : AccessKind) (w : ℕ) (at : VirtAddr) (to : PhysAddr) → is_width w ≡ true → locate s k w at ≡ Ok to → Stands to.0 w
+place_stands s k w at to is_wide is =
     let found : Located s k w at to = located s k w at to is in
     let same : SameOffset (word_of at) to.0
     = subst (λ (r : Result Place PageFault). IfOk r (λ p. SameOffset (word_of at) p.0.0)) found.leads
     (same_offset s.registers.mode s.registers.windows s.tlb k (word_of at)) in
-    and_from (is_width w) (eqb (to.0 % w) 0) is_wide (eq-eqb (to.0 % w) 0 (same_multiple to.0 (word_of at) w (wide w is_wide) same found.aligned))
+    (wide w is_wide, same_multiple to.0 (word_of at) w (wide w is_wide) same found.aligned)
 
-module _ (s : State) (levels : ℕ) (m : Memory) where
+-- an answer that the bus's rules give and that is a refusal
+read_reason : (m : Memory) (a w : ℕ) (k : AccessKind) (pc : VirtAddr) (r : Result ℕ Refusal) (e : Refusal) → Stands a w → ReadRule m a w r → r ≡ Err e
+    → RefusedFor m (record { by_bus = e; kind = k; pc = pc })
+read_reason m a w k pc r e stands (rule.misaligned f none told) is = absurd (none stands)
+read_reason m a w k pc r e stands (rule.missing f x here low told) is =
+    let same : f ≡ e = cc in
+    missing x low.true_there (ap refusal_number (sym same) ∙ told.0) (ap refusal_address (sym same) ∙ told.1)
+read_reason m a w k pc r e stands (rule.value v here none reads) is = let z : ◌≡◌ {A = ℕ} 0 1 = cc in absurd (omega arith)
+
+write_reason : (m n : Memory) (a w v : ℕ) (pc : VirtAddr) (r : Result (Unit {0}) Refusal) (e : Refusal) → Stands a w → WriteRule m a w v r n → r ≡ Err e
+    → RefusedFor m (record { by_bus = e; kind = kind.Store; pc = pc })
+write_reason m n a w v pc r e stands (rule.misaligned f none told) is = absurd (none stands)
+write_reason m n a w v pc r e stands (rule.missing f x here low told) is =
+    let same : f ≡ e = cc in
+    missing x low.true_there (ap refusal_number (sym same) ∙ told.0) (ap refusal_address (sym same) ∙ told.1)
+write_reason m n a w v pc r e stands (rule.unwritable f x here open_there low told) is =
+    let same : f ≡ e = cc in
+    unwritable x low.true_there refl (ap refusal_number (sym same) ∙ told.0) (ap refusal_address (sym same) ∙ told.1)
+write_reason m n a w v pc r e stands (rule.written k here some free replaced) is = let z : ◌≡◌ {A = ℕ} 0 1 = cc in absurd (omega arith)
+
+module _ (s : State) (levels : ℕ) (m : Memory) (sound : Sound m) where
   abbrev RefusedBy : Outcome StepAnswer → Type 0
   RefusedBy o = IfErr o.answer (λ e. Refused s m e o.state o.memory)
-
-  read_reason : (k : AccessKind) (a w : ℕ) (e : Refusal) → aligned a w ≡ true → read_of m a w ≡ Err e
-      → RefusedFor m (record { by_bus = e; kind = k; pc = s.user.pc })
-  read_reason k a w e fit is =
-      ⊎_elim (λ h. missing h.0 h.1.0 (ap refusal_number h.1.1) (ap refusal_address h.1.1))
-      (λ none. let z : ◌≡◌ {A = ℕ} 0 1 = cc in absurd (omega arith))
-      (scan_refuses m is_absent Absent e a w (Ok (value_at m a w)) (sym (cond-true (aligned a w) _ _ fit) ∙ is))
-
-  write_reason : (a w v : ℕ) (e : Refusal) → aligned a w ≡ true → write_of m a w v ≡ Err e
-      → RefusedFor m (record { by_bus = e; kind = kind.Store; pc = s.user.pc })
-  write_reason a w v e fit is =
-      ⊎_elim (λ h. missing h.0 h.1.0 (ap refusal_number h.1.1) (ap refusal_address h.1.1))
-      (λ more. ⊎_elim (λ h. unwritable h.0 h.1.0 refl (ap refusal_number h.1.1) (ap refusal_address h.1.1))
-      (λ none. let z : ◌≡◌ {A = ℕ} 0 1 = cc in absurd (omega arith))
-      (scan_refuses m is_fixed Fixed e a w (Ok (put m a w v)) more))
-      (scan_refuses m is_absent Absent e a w (unless_any is_fixed Fixed m a w (Ok (put m a w v))) (sym (cond-true (aligned a w) _ _ fit) ∙ is))
 
   came_refused : (o : Outcome StepAnswer) → Came (awake (at_levels s levels)) m o → RefusedBy (ended s m o.answer o)
   came_refused o (raises e) = tt
@@ -96,13 +85,15 @@ module _ (s : State) (levels : ℕ) (m : Memory) where
   came_refused o (supervises action level) = tt
   came_refused o (writes u link at place w v n is_wide to put_is) = tt
   came_refused o (unread k at place w e is_wide to got) = record {
-    reason = read_reason k place.0 w e (place_aligned s k w at place is_wide to) got;
+    reason = read_reason m place.0 w k s.user.pc (read_of m place.0 w) e (place_stands s k w at place is_wide to)
+        (read_rule m place.0 w sound (read_of m place.0 w) refl) got;
     pc = refl;
     state = refl;
     memory = refl;
   }
   came_refused o (unwritten at place w v e is_wide to put_is) = record {
-    reason = write_reason place.0 w v e (place_aligned s kind.Store w at place is_wide to) put_is;
+    reason = write_reason m (memory_after m (write_of m place.0 w v)) place.0 w v s.user.pc (answer_of (write_of m place.0 w v)) e
+        (place_stands s kind.Store w at place is_wide to) (write_rule m place.0 w v _ _ (record { answer = refl; after = refl })) (ap answer_of put_is);
     pc = refl;
     state = refl;
     memory = refl;
@@ -116,6 +107,7 @@ module _ (s : State) (levels : ℕ) (m : Memory) where
   unfolding step
   refused_by = waiting_refused (keeps_waiting s.activity (due (at_levels s levels).registers.interrupts))
 
+module _ (s : State) (levels : ℕ) (m : Memory) where
   abbrev Handled : Outcome StepAnswer → Type 0
   Handled o = IfException o.answer (HandlerBegins s o.state)
 
@@ -187,11 +179,11 @@ pub record Lawful (s : State) (levels : ℕ) (m : Memory) (o : Outcome StepAnswe
   pub isolated : StepIsolated s levels m o
   pub confined : Confined s m o
 
-pub lawful : (s t : State) (levels : ℕ) (m : Memory) (o : Outcome StepAnswer) → t ≡ s → o ≡ step t levels m → Lawful s levels m o
-lawful s t levels m o same is =
+pub lawful : (s t : State) (levels : ℕ) (m : Memory) (o : Outcome StepAnswer) → Sound m → t ≡ s → o ≡ step t levels m → Lawful s levels m o
+lawful s t levels m o sound same is =
     let here : o ≡ step s levels m = is ∙ ap (λ (u : State). step u levels m) same in
     subst (Lawful s levels m) (sym here) (record {
-      refused = refused_by s levels m;
+      refused = refused_by s levels m sound;
       exception = handled s levels m;
       interrupt = interrupt_taken s levels m;
       isolated = step_isolated s levels m;
