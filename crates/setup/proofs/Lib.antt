@@ -1,0 +1,2 @@
+pub mod FirstLine
+pub mod Forms
