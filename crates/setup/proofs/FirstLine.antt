@@ -15,3 +15,7 @@ first_line (b ∷ c ∷ bs) some = by_feed (b == 10) refl (first_line (c ∷ bs)
 pub within : (text : List ℕ) → line_length text ≤ length text
 within [] = omega arith
 within (b ∷ bs) = grind (arith, within bs)
+
+pub has_a_byte : (text : List ℕ) → 0 < length text → 0 < line_length text
+has_a_byte [] some = absurd (omega arith)
+has_a_byte (b ∷ bs) some = grind arith

@@ -1,0 +1,2 @@
+pub mod Printing
+pub mod Told

@@ -1,0 +1,37 @@
+-- The numbers and the values of what the lines of a set-up answer.
+use Rattle.std.specs.Prelude.{ℕ, Some, None, Option, Ok, Err, Result}
+use Rattle.bus.specs.declared.address.PhysAddr.{PhysAddr}
+use Rattle.bus.specs.Refusals.{refusal_number, refusal_address}
+use Rattle.machine.specs.declared.answers.StepRefusal.{StepRefusal}
+use Rattle.machine.specs.Answers.{step_refusal_number, call_refusal_number}
+use Rattle.session.specs.declared.answer.LineAnswer.{LineAnswer}
+use Rattle.session.specs.declared.answer.LineAnswer.TheVariants.{Written, Ran, Register}
+use Rattle.session.specs.declared.answer.LineRefusal.{LineRefusal}
+use Rattle.session.specs.declared.answer.LineRefusal.TheVariants.{NoForm, OutOfPlace, Bus, Call, ListingFull}
+
+abbrev pub LineResult : Type 0
+LineResult = Result LineAnswer LineRefusal
+
+-- of a run that was cut short, or 0
+abbrev pub run_number : Option StepRefusal → ℕ
+run_number None = 0
+run_number (Some e) = step_refusal_number e
+
+abbrev pub line_answer_number : LineAnswer → ℕ
+line_answer_number Written = 0
+line_answer_number (Ran report pc) = run_number report.refusal
+line_answer_number (Register number value) = 0
+
+abbrev pub line_refusal_number : LineRefusal → ℕ
+line_refusal_number NoForm = 10
+line_refusal_number OutOfPlace = 11
+line_refusal_number (Bus e) = refusal_number e
+line_refusal_number (Call e) = call_refusal_number e
+line_refusal_number ListingFull = 12
+
+abbrev pub line_refusal_address : LineRefusal → Option PhysAddr
+line_refusal_address NoForm = None
+line_refusal_address OutOfPlace = None
+line_refusal_address (Bus e) = refusal_address e
+line_refusal_address (Call e) = None
+line_refusal_address ListingFull = None

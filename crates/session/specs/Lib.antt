@@ -1,0 +1,4 @@
+pub mod Answers
+pub mod Listings
+pub mod Sessions
+pub mod Whole

@@ -1,0 +1,115 @@
+// A set-up's session: the board, and the core from the first run on.
+ghost use Rattle.std.specs.Prelude.{◌≡◌, length};
+ghost use Rattle.session.specs.Listings.{contents, with_text, told};
+ghost use Rattle.session.specs.Sessions.{handled, progress, fresh, handle, perform, write_word, run_core, read_register};
+
+use crate::answer::{LineAnswer, LineRefusal};
+use crate::listing::Listing;
+use bus::{Access, Bus, PhysAddr};
+use machine::{RunningCore, UnresetCore};
+use setup::SetupLine;
+
+#[derive(Drop)]
+pub enum Stage {
+    Unreset(UnresetCore),
+    Running(RunningCore),
+}
+
+#[derive(Drop)]
+pub struct Session<B> {
+    board: B,
+    stage: Stage,
+    // How many lines were read; no more than the greatest number are counted.
+    lines: u32,
+}
+
+impl<B: Bus> Session<B> {
+    pub fn new(board: B) -> Session<B>
+        ensures progress { progress result.stage (B.byte result.board) result.lines ≡ fresh (B.byte board) }
+        ensures kept { B.layout result.board ≡ B.layout board }
+    {
+        Session {
+            board,
+            stage: Stage::Unreset(UnresetCore),
+            lines: 0,
+        }
+    }
+
+    // Handles a line and writes what it brings about behind what the listing holds. A line that finds the listing full is not read.
+    pub fn handle(
+        &mut self,
+        line: &[u8],
+        listing: &mut Listing<'_>,
+    ) -> Result<LineAnswer, LineRefusal>
+        ensures value { handled result self.new.stage (B.byte self.new.board) self.new.lines ≡ handle (progress self.old.stage (B.byte self.old.board) self.old.lines) (contents listing.old) line.now }
+        ensures listing { contents listing.new ≡ with_text (contents listing.old) (told self.new.lines result) }
+        ensures lender { listing.new.memory.ghost_name ≡ listing.old.memory.ghost_name }
+        ensures kept { B.layout self.new.board ≡ B.layout self.old.board }
+    {
+        if listing.is_full() {
+            return Err(LineRefusal::ListingFull);
+        }
+        self.lines = self.lines.saturating_add(1);
+        let answer = self.perform(line);
+        listing.tell(self.lines, answer);
+        answer
+    }
+
+    fn perform(&mut self, line: &[u8]) -> Result<LineAnswer, LineRefusal>
+        ensures value { handled result self.new.stage (B.byte self.new.board) self.new.lines ≡ perform (progress self.old.stage (B.byte self.old.board) self.old.lines) line.now }
+        ensures kept { B.layout self.new.board ≡ B.layout self.old.board }
+    {
+        match SetupLine::read(line) {
+            None => Err(LineRefusal::NoForm),
+            Some(SetupLine::Write { address, data }) => {
+                self.write(PhysAddr(address.value()), data.value())
+            }
+            Some(SetupLine::Run { count }) => self.run(count.value()),
+            Some(SetupLine::Register { number }) => self.register(number.value()),
+        }
+    }
+
+    fn write(&mut self, at: PhysAddr, word: u32) -> Result<LineAnswer, LineRefusal>
+        ensures value { handled result self.new.stage (B.byte self.new.board) self.new.lines ≡ write_word (progress self.old.stage (B.byte self.old.board) self.old.lines) at.0 word }
+        ensures kept { B.layout self.new.board ≡ B.layout self.old.board }
+    {
+        match &self.stage {
+            Stage::Running(_) => Err(LineRefusal::OutOfPlace),
+            Stage::Unreset(_) => match self.board.write(Access::new(at, 4), word) {
+                Ok(()) => Ok(LineAnswer::Written),
+                Err(refusal) => Err(LineRefusal::Bus(refusal)),
+            },
+        }
+    }
+
+    // The first run resets the core, also if it is refused then.
+    fn run(&mut self, count: u32) -> Result<LineAnswer, LineRefusal>
+        ensures value { handled result self.new.stage (B.byte self.new.board) self.new.lines ≡ run_core (progress self.old.stage (B.byte self.old.board) self.old.lines) count }
+        ensures kept { B.layout self.new.board ≡ B.layout self.old.board }
+    {
+        let mut core = match std::mem::replace(&mut self.stage, Stage::Unreset(UnresetCore)) {
+            Stage::Unreset(core) => core.reset(),
+            Stage::Running(core) => core,
+        };
+        let report = core.run(&mut self.board, count, 0);
+        let pc = core.pc();
+        self.stage = Stage::Running(core);
+        match report {
+            Ok(report) => Ok(LineAnswer::Ran { report, pc }),
+            Err(refusal) => Err(LineRefusal::Call(refusal)),
+        }
+    }
+
+    fn register(&mut self, number: u32) -> Result<LineAnswer, LineRefusal>
+        ensures value { handled result self.new.stage (B.byte self.new.board) self.new.lines ≡ read_register (progress self.old.stage (B.byte self.old.board) self.old.lines) number }
+        ensures kept { B.layout self.new.board ≡ B.layout self.old.board }
+    {
+        match &self.stage {
+            Stage::Unreset(_) => Err(LineRefusal::OutOfPlace),
+            Stage::Running(core) => match core.register(number) {
+                Ok(value) => Ok(LineAnswer::Register { number, value }),
+                Err(refusal) => Err(LineRefusal::Call(refusal)),
+            },
+        }
+    }
+}

@@ -1,0 +1,72 @@
+// A whole set-up: its lines one after the other, the listing printed and emptied behind each.
+ghost use Rattle.std.specs.Prelude.{◌≡◌, OnOk, IfOk, IfSome, take};
+ghost use Rattle.std.specs.Io.KnownBytes.{Appends};
+ghost use Rattle.setup.specs.Text.{lines_of};
+ghost use Rattle.session.specs.Sessions.{progress, fresh, lines_told, after_lines};
+ghost use Rattle.session.specs.Whole.{board, set_up_listing};
+
+use crate::lines::ROOM;
+use crate::listing::Listing;
+use crate::session::Session;
+use bus::{Bus, PhysAddr};
+use parts::Bank;
+use setup::split_line;
+use std::alloc::Global;
+use std::io;
+use std::io::{Read, Write};
+
+// The most that is read of a text.
+const MOST_BYTES: u64 = 65_536;
+
+const BANK: PhysAddr = PhysAddr(0x1c00_0000);
+
+const BANK_BYTES: usize = 32_768;
+
+impl<B: Bus> Session<B> {
+    // Handles the lines of a text and prints what each writes into the listing.
+    pub fn print<W: Write>(&mut self, text: &[u8], out: &mut W) -> io::Result<()>
+        ensures printed { OnOk result (Appends (W.contents out.old) (W.contents out.new) (lines_told (progress self.old.stage (B.byte self.old.board) self.old.lines) (lines_of text.now))) }
+        ensures after { OnOk result (progress self.new.stage (B.byte self.new.board) self.new.lines ≡ after_lines (progress self.old.stage (B.byte self.old.board) self.old.lines) (lines_of text.now)) }
+        ensures kept { B.layout self.new.board ≡ B.layout self.old.board }
+    {
+        let mut rest = text;
+        while let Some((line, behind)) = split_line(rest) {
+            let mut memory = [0u8; ROOM];
+            let mut listing = Listing::new(&mut memory, 0);
+            // Why a line was refused is in the listing.
+            let _ = self.handle(line, &mut listing);
+            out.write_all(listing.text())?;
+            rest = behind;
+        }
+        Ok(())
+    }
+}
+
+// The listing of a text, on a board of one bank.
+fn print_listing<W: Write>(text: &[u8], out: &mut W) -> io::Result<()>
+    ensures { OnOk result (Appends (W.contents out.old) (W.contents out.new) (lines_told (fresh board) (lines_of text.now))) }
+{
+    let mut memory = [0u8; BANK_BYTES];
+    let mut session = Session::new(Bank::new(BANK, &mut memory));
+    session.print(text, out)
+}
+
+fn read_text<R: Read + Drop>(alloc: Global, input: R) -> io::Result<Vec<u8>>
+    ensures { IfOk result (λ text. IfSome (R.remaining input) (λ bytes. text.items ≡ take 65536 bytes)) }
+{
+    let mut text = Vec::new(alloc);
+    input.take(MOST_BYTES).read_to_end(&mut text)?;
+    Ok(text)
+}
+
+// Reads a set-up, runs it on a board of one bank and prints its listing.
+pub fn run_set_up<R: Read + Drop, W: Write>(
+    alloc: Global,
+    input: R,
+    out: &mut W,
+) -> io::Result<()>
+    ensures { OnOk result (IfSome (R.remaining input) (λ text. Appends (W.contents out.old) (W.contents out.new) (set_up_listing text))) }
+{
+    let text = read_text(alloc, input)?;
+    print_listing(text.as_slice(), out)
+}
