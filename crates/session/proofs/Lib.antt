@@ -1,2 +1,3 @@
 pub mod Printing
+pub mod Refusing
 pub mod Told

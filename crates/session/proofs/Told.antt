@@ -1,5 +1,5 @@
 -- Text behind text, and how long the lines of a listing are.
-use Rattle.std.proofs.Common.{◌≡◌, refl, sym, ap, ◌∙◌, ℕ, ◌+◌, ◌-◌, ◌^◌, ◌<◌, ◌≤◌, List, [], ◌∷◌, ◌++◌, length, drop, codes, decimal, arith, append_assoc, Some}
+use Rattle.std.proofs.Common.{◌≡◌, sym, ap, ◌∙◌, ℕ, ◌+◌, ◌-◌, ◌<◌, ◌≤◌, List, [], ◌∷◌, ◌++◌, length, drop, codes, decimal, arith, append_assoc, Some}
 use Rattle.std.proofs.lemmas.List.{length-append, length-drop, drop-drop}
 use Rattle.std.proofs.lemmas.Fmt.{length-decimal-le}
 use Rattle.bus.specs.declared.refusal.Refusal.{Refusal}
@@ -13,7 +13,6 @@ use Rattle.machine.specs.declared.answers.CallRefusal.TheVariants.{NoRegister, N
 use Rattle.session.specs.declared.answer.LineRefusal.{LineRefusal}
 use Rattle.session.specs.declared.answer.LineRefusal.TheVariants.{NoForm, OutOfPlace, Bus, Call, ListingFull}
 use Rattle.session.specs.Answers.{line_refusal_number}
-use Rattle.numerals.specs.Hexadecimal.{hex_text}
 use Rattle.session.specs.Listings.{Contents, with_text, line_of, run_line, refusal_line, cut_line, report_lines}
 
 with_more : (c : Contents) (xs ys : List ℕ) → with_text (with_text c xs) ys ≡ with_text c (xs ++ ys)

@@ -1,5 +1,5 @@
 -- The numbers and the values of what the lines of a set-up answer.
-use Rattle.std.specs.Prelude.{ℕ, Some, None, Option, Ok, Err, Result}
+use Rattle.std.specs.Prelude.{ℕ, Some, None, Option, Result}
 use Rattle.bus.specs.declared.address.PhysAddr.{PhysAddr}
 use Rattle.bus.specs.Refusals.{refusal_number, refusal_address}
 use Rattle.machine.specs.declared.answers.StepRefusal.{StepRefusal}

@@ -1,5 +1,5 @@
 -- The lines of a listing.
-use Rattle.std.specs.Prelude.{ℕ, ◌+◌, Bool, List, [], ◌∷◌, ◌++◌, length, take, drop, codes, decimal, nat_lt, Some, None, Option, Ok, Err}
+use Rattle.std.specs.Prelude.{ℕ, Bool, List, [], ◌∷◌, ◌++◌, length, take, drop, codes, decimal, nat_lt, Some, None, Option, Ok, Err}
 use Rattle.pages.specs.declared.address.VirtAddr.{VirtAddr}
 use Rattle.numerals.specs.Hexadecimal.{hex_text}
 use Rattle.machine.specs.declared.answers.RunReport.{RunReport}

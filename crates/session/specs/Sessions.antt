@@ -1,5 +1,5 @@
 -- What a line of a set-up does, and what a whole text does.
-use Rattle.std.specs.Prelude.{ℕ, ◌+◌, ◌-◌, ◌^◌, min, Bool, true, false, cond, List, [], ◌∷◌, ◌++◌, Some, None, Option, Ok, Err, Result}
+use Rattle.std.specs.Prelude.{◌≡◌, ℕ, ◌+◌, ◌-◌, ◌^◌, min, cond, List, [], ◌∷◌, ◌++◌, Some, None, Option, Ok, Err, Result}
 use Rattle.bus.specs.declared.refusal.Refusal.{Refusal}
 use Rattle.bus.specs.Memory.{Memory, write_of, answer_of, memory_after}
 use Rattle.numerals.specs.Hexadecimal.{hex_value}
@@ -7,12 +7,11 @@ use Rattle.numerals.specs.Decimal.{decimal_value}
 use Rattle.setup.specs.Lines.{Form, write, run, register, form_of}
 use Rattle.machine.specs.declared.answers.RunReport.{RunReport}
 use Rattle.machine.specs.declared.answers.CallRefusal.{CallRefusal}
-use Rattle.machine.specs.declared.stages.UnresetCore.{UnresetCore}
+use Rattle.machine.specs.declared.answers.CallRefusal.TheVariants.{NoRegister, NoControlRegister, NoTlbEntry, RunTooLong}
 use Rattle.machine.specs.declared.state.State.{State}
 use Rattle.machine.specs.Outcomes.{Outcome}
 use Rattle.machine.specs.State.{reset_state}
 use Rattle.machine.specs.Calls as core
-use Rattle.session.specs.declared.answer.LineAnswer.{LineAnswer}
 use Rattle.session.specs.declared.answer.LineAnswer.TheVariants.{Written, Ran, Register}
 use Rattle.session.specs.declared.answer.LineRefusal.{LineRefusal}
 use Rattle.session.specs.declared.answer.LineRefusal.TheVariants.{NoForm, OutOfPlace, Bus, Call, ListingFull}
@@ -117,3 +116,22 @@ lines_told p (line ∷ lines) = line_told (read_line p line) ++ lines_told (read
 abbrev pub after_lines : Progress → List (List ℕ) → Progress
 after_lines p [] = p
 after_lines p (line ∷ lines) = after_lines (read_line p line).progress lines
+
+-- the first lines of a text were handled, and no other
+abbrev pub SomeHandled : Progress → List (List ℕ) → Progress → Type 0
+SomeHandled p lines q = (done : List (List ℕ)) × (left : List (List ℕ)) × (done ++ left ≡ lines) × (q ≡ after_lines p done)
+
+-- a refusal leaves the core as it was, but a run that is too long has reset one that was never reset
+abbrev pub stage_left : LineRefusal → Stage → Stage
+stage_left NoForm stage = stage
+stage_left OutOfPlace stage = stage
+stage_left (Bus e) stage = stage
+stage_left (Call NoRegister) stage = stage
+stage_left (Call NoControlRegister) stage = stage
+stage_left (Call NoTlbEntry) stage = stage
+stage_left (Call RunTooLong) stage = Running (core_to_run stage)
+stage_left ListingFull stage = stage
+
+pub record Left (e : LineRefusal) (stage : Stage) (m : Memory) (q : Progress) : Type 0 where
+  pub memory : q.memory ≡ m
+  pub core : q.stage ≡ stage_left e stage

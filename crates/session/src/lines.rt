@@ -67,7 +67,11 @@ impl Listing<'_> {
         ensures lender { self.new.memory.ghost_name ≡ self.old.memory.ghost_name }
     {
         let mut buffer = Buffer::new();
-        self.push_line(b"reg", decimal_digits(number, &mut buffer), &hex_digits(value));
+        self.push_line(
+            b"reg",
+            decimal_digits(number, &mut buffer),
+            &hex_digits(value),
+        );
     }
 
     fn push_refusal(&mut self, line: u32, number: u32)

@@ -1,7 +1,7 @@
 // A set-up's session: the board, and the core from the first run on.
-ghost use Rattle.std.specs.Prelude.{◌≡◌, length};
+ghost use Rattle.std.specs.Prelude.{◌≡◌, IfErr};
 ghost use Rattle.session.specs.Listings.{contents, with_text, told};
-ghost use Rattle.session.specs.Sessions.{handled, progress, fresh, handle, perform, write_word, run_core, read_register};
+ghost use Rattle.session.specs.Sessions.{handled, progress, fresh, handle, perform, write_word, run_core, read_register, Left};
 
 use crate::answer::{LineAnswer, LineRefusal};
 use crate::listing::Listing;
@@ -42,6 +42,11 @@ impl<B: Bus> Session<B> {
         listing: &mut Listing<'_>,
     ) -> Result<LineAnswer, LineRefusal>
         ensures value { handled result self.new.stage (B.byte self.new.board) self.new.lines ≡ handle (progress self.old.stage (B.byte self.old.board) self.old.lines) (contents listing.old) line.now }
+
+        // A refusal leaves the core and the memory as they were, but for the reset before a first run that is too long.
+        ensures refused { IfErr result (λ e. Left e self.old.stage (B.byte self.old.board) (progress self.new.stage (B.byte self.new.board) self.new.lines)) }
+
+        // What the line brings about stands behind what the listing held, and the bytes behind that are as they were.
         ensures listing { contents listing.new ≡ with_text (contents listing.old) (told self.new.lines result) }
         ensures lender { listing.new.memory.ghost_name ≡ listing.old.memory.ghost_name }
         ensures kept { B.layout self.new.board ≡ B.layout self.old.board }

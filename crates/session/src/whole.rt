@@ -1,8 +1,8 @@
 // A whole set-up: its lines one after the other, the listing printed and emptied behind each.
-ghost use Rattle.std.specs.Prelude.{◌≡◌, OnOk, IfOk, IfSome, take};
+ghost use Rattle.std.specs.Prelude.{◌≡◌, OnOk, OnErr, IfOk, IfSome, take};
 ghost use Rattle.std.specs.Io.KnownBytes.{Appends};
 ghost use Rattle.setup.specs.Text.{lines_of};
-ghost use Rattle.session.specs.Sessions.{progress, fresh, lines_told, after_lines};
+ghost use Rattle.session.specs.Sessions.{progress, fresh, lines_told, after_lines, SomeHandled};
 ghost use Rattle.session.specs.Whole.{board, set_up_listing};
 
 use crate::lines::ROOM;
@@ -27,6 +27,9 @@ impl<B: Bus> Session<B> {
     pub fn print<W: Write>(&mut self, text: &[u8], out: &mut W) -> io::Result<()>
         ensures printed { OnOk result (Appends (W.contents out.old) (W.contents out.new) (lines_told (progress self.old.stage (B.byte self.old.board) self.old.lines) (lines_of text.now))) }
         ensures after { OnOk result (progress self.new.stage (B.byte self.new.board) self.new.lines ≡ after_lines (progress self.old.stage (B.byte self.old.board) self.old.lines) (lines_of text.now)) }
+
+        // Where printing failed, the lines up to some line were handled.
+        ensures stopped { OnErr result (SomeHandled (progress self.old.stage (B.byte self.old.board) self.old.lines) (lines_of text.now) (progress self.new.stage (B.byte self.new.board) self.new.lines)) }
         ensures kept { B.layout self.new.board ≡ B.layout self.old.board }
     {
         let mut rest = text;
@@ -60,11 +63,7 @@ fn read_text<R: Read + Drop>(alloc: Global, input: R) -> io::Result<Vec<u8>>
 }
 
 // Reads a set-up, runs it on a board of one bank and prints its listing.
-pub fn run_set_up<R: Read + Drop, W: Write>(
-    alloc: Global,
-    input: R,
-    out: &mut W,
-) -> io::Result<()>
+pub fn run_set_up<R: Read + Drop, W: Write>(alloc: Global, input: R, out: &mut W) -> io::Result<()>
     ensures { OnOk result (IfSome (R.remaining input) (λ text. Appends (W.contents out.old) (W.contents out.new) (set_up_listing text))) }
 {
     let text = read_text(alloc, input)?;

@@ -1,6 +1,6 @@
 -- A text's lines are its first, and those of what lies behind it.
-use Rattle.std.proofs.Common.{◌≡◌, refl, sym, ap, ◌∙◌, ℕ, suc, ◌<◌, ◌≤◌, Bool, true, false, cond, List, [], ◌∷◌, length, take, drop, ◌==◌, arith}
-use Rattle.setup.specs.Text.{before_first, lines_of, line_length}
+use Rattle.std.proofs.Common.{◌≡◌, refl, ℕ, ◌<◌, ◌≤◌, Bool, true, false, List, [], ◌∷◌, length, take, drop, ◌==◌, arith}
+use Rattle.setup.specs.Text.{lines_of, line_length}
 
 pub first_line : (text : List ℕ) → 0 < length text → lines_of text ≡ take (line_length text) text ∷ lines_of (drop (line_length text) text)
 first_line [] some = absurd (omega arith)

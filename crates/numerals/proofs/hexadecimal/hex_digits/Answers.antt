@@ -1,5 +1,5 @@
 use Rattle.std.proofs.lemmas.Grind.{common_steps}
-use Rattle.std.proofs.Common.{◌≡◌, sym, ap, subst, true, [], ◌∷◌, arith}
+use Rattle.std.proofs.Common.{◌≡◌, sym, subst, true, [], ◌∷◌, arith}
 use Rattle.numerals.specs.Hexadecimal.{is_hex_field, hex_value, hex_text}
 use Rattle.numerals.proofs.Hexadecimals.{read_back}
 use Rattle.numerals.proofs.hexadecimal.hex_digits.Goals as goal

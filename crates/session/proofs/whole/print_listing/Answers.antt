@@ -1,4 +1,4 @@
-use Rattle.std.proofs.Common.{◌≡◌, ap, subst, ◌∙◌}
+use Rattle.std.proofs.Common.{ap, subst, ◌∙◌}
 use Rattle.std.specs.Prelude.{OnOk}
 use Rattle.std.specs.Io.KnownBytes.{Appends}
 use Rattle.setup.specs.Text.{lines_of}
@@ -8,4 +8,4 @@ use Rattle.session.proofs.whole.print_listing.Goals as goal
 pub returns : goal.returns
 returns g c =
     subst (λ p. OnOk c.print.result (Appends (g.W.Write.contents c.args.out.now) (g.W.Write.contents c.print.new.out) (lines_told p (lines_of c.args.text.now))))
-        (c.new-session.ensures.progress ∙ ap fresh c.new.ensures.cells) c.print.ensures.printed
+    (c.new-session.ensures.progress ∙ ap fresh c.new.ensures.cells) c.print.ensures.printed

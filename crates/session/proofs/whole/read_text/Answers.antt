@@ -6,4 +6,4 @@ use Rattle.session.proofs.whole.read_text.Goals as goal
 pub returns : goal.returns
 returns g c =
     subst (λ reader. IfSome (g.R.Read.remaining reader) (λ bytes. c.read_to_end.new.buf.items ≡ take 65536 bytes)) c.take.ensures.inner
-        (limited (g.R.Read.remaining c.take.result.inner) c.take.result.limit c.new-text.result.items c.read_to_end.new.buf.items c.take.ensures.limit c.new-text.ensures.items c.in_ok-read_to_end.ensures.bytes)
+    (limited (g.R.Read.remaining c.take.result.inner) c.take.result.limit c.new-text.result.items c.read_to_end.new.buf.items c.take.ensures.limit c.new-text.ensures.items c.in_ok-read_to_end.ensures.bytes)

@@ -1,4 +1,4 @@
-use Rattle.std.proofs.Common.{◌≡◌, arith, ap, sym, ◌∙◌, ◌∷◌, take, drop}
+use Rattle.std.proofs.Common.{arith, ap, sym, ◌∙◌, ◌∷◌, take, drop}
 use Rattle.std.proofs.lemmas.Grind.{common_steps}
 use Rattle.setup.specs.Text.{lines_of}
 use Rattle.setup.proofs.FirstLine.{first_line, within, has_a_byte}

@@ -1,0 +1,10 @@
+use Rattle.std.proofs.Common.{sym, subst}
+use Rattle.setup.specs.Lines.{form_of}
+use Rattle.session.specs.Sessions.{progress}
+use Rattle.session.proofs.Refusing.{Refused, by_form}
+use Rattle.session.proofs.session.Session.handle.Goals as goal
+
+pub returns-clause-refused : goal.returns-clause-refused
+returns-clause-refused g c =
+    let p = progress c.args.self.now.stage (g.B.Bus.byte c.args.self.now.board) c.args.self.now.lines in
+    subst (Refused p) (sym c.perform-answer.ensures.value) (by_form (progress c.args.self.now.stage (g.B.Bus.byte c.args.self.now.board) c.saturating_add-self.result) (form_of c.args.line.now))
