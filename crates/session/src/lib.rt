@@ -5,6 +5,8 @@ pub mod answer;
 mod lines;
 pub mod listing;
 pub mod session;
+#[cfg(test)]
+mod tests;
 pub mod whole;
 
 pub use answer::{LineAnswer, LineRefusal};
