@@ -8,7 +8,7 @@ use Rattle.std.specs.Io.KnownBytes.{Appends, append_known}
 use Rattle.session.specs.declared.answer.LineRefusal.TheVariants.{ListingFull}
 use Rattle.session.specs.declared.listing.Listing.{Listing}
 use Rattle.session.specs.Listings.{Contents, contents}
-use Rattle.session.specs.Sessions.{Progress, Handled, unchanged, read_line, handle, after_lines, SomeHandled}
+use Rattle.session.specs.Sessions.{Progress, Handled, handled, read_line, handle, after_lines, SomeHandled}
 
 -- a listing that begins empty in memory of 40 bytes
 pub begun : (l : Listing) (memory : List ℕ) → l.used ≡ min 0 (length memory) → l.memory.now ≡ memory → length memory ≡ 40 → (40 ≤ length (contents l).free) × ((contents l).written ≡ [])
@@ -18,7 +18,7 @@ begun l memory used held long =
 
 -- a line that finds room is read
 pub read_with_room : (p : Progress) (listing : Contents) (line : List ℕ) (h : Handled) → h ≡ handle p listing line → 40 ≤ length listing.free → h ≡ read_line p line
-read_with_room p listing line h handled_so room = handled_so ∙ ap (λ full. cond full (unchanged p (Err ListingFull)) (read_line p line)) (le-ltb (length listing.free) 40 room)
+read_with_room p listing line h as_defined room = as_defined ∙ ap (λ full. cond full (handled (Err ListingFull) p) (read_line p line)) (le-ltb (length listing.free) 40 room)
 
 pub printed : (start now after : Option (List ℕ)) (line more whole : List ℕ) → Appends start (append_known now (line ++ more)) whole → Appends now after line → Appends start (append_known after more) whole
 printed None now after line more whole so_far behind = tt
@@ -30,13 +30,13 @@ printed (Some xs) (Some ys) (Some zs) line more whole so_far behind = ap (λ bs.
 abbrev pub SomeLeft : Progress → List (List ℕ) → Progress → List (List ℕ) → Type 0
 SomeLeft p lines q left = (done : List (List ℕ)) × (done ++ left ≡ lines) × (q ≡ after_lines p done)
 
-after_more : (p : Progress) (done : List (List ℕ)) (line : List ℕ) → after_lines p (done ++ (line ∷ [])) ≡ (read_line (after_lines p done) line).progress
+after_more : (p : Progress) (done : List (List ℕ)) (line : List ℕ) → after_lines p (done ++ (line ∷ [])) ≡ (read_line (after_lines p done) line).after
 after_more p [] line = refl
-after_more p (first ∷ done) line = after_more (read_line p first).progress done line
+after_more p (first ∷ done) line = after_more (read_line p first).after done line
 
-pub one_more : (p q : Progress) (lines : List (List ℕ)) (line : List ℕ) (left : List (List ℕ)) → SomeLeft p lines q (line ∷ left) → SomeLeft p lines (read_line q line).progress left
+pub one_more : (p q : Progress) (lines : List (List ℕ)) (line : List ℕ) (left : List (List ℕ)) → SomeLeft p lines q (line ∷ left) → SomeLeft p lines (read_line q line).after left
 one_more p q lines line left so_far =
-    (so_far.0 ++ (line ∷ []), append_assoc so_far.0 (line ∷ []) left ∙ so_far.1, ap (λ r. (read_line r line).progress) so_far.2 ∙ sym (after_more p so_far.0 line))
+    (so_far.0 ++ (line ∷ []), append_assoc so_far.0 (line ∷ []) left ∙ so_far.1, ap (λ r. (read_line r line).after) so_far.2 ∙ sym (after_more p so_far.0 line))
 
 pub stopped : {T E : Type 0} (r : Result T E) (p q : Progress) (lines left : List (List ℕ)) → SomeLeft p lines q left → OnErr r (SomeHandled p lines q)
 stopped (Ok x) p q lines left so_far = tt

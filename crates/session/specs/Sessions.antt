@@ -15,6 +15,7 @@ use Rattle.machine.specs.Calls as core
 use Rattle.session.specs.declared.answer.LineAnswer.TheVariants.{Written, Ran, Register}
 use Rattle.session.specs.declared.answer.LineRefusal.{LineRefusal}
 use Rattle.session.specs.declared.answer.LineRefusal.TheVariants.{NoForm, OutOfPlace, Bus, Call, ListingFull}
+use Rattle.session.specs.declared.session.Session.{Session}
 use Rattle.session.specs.declared.session.Stage.{Stage}
 use Rattle.session.specs.declared.session.Stage.TheVariants.{Unreset, Running}
 use Rattle.session.specs.Answers.{LineResult}
@@ -26,32 +27,32 @@ pub record Progress : Type 0 where
   pub memory : Memory
   pub lines : ℕ
 
-abbrev pub progress : Stage → Memory → ℕ → Progress
-progress stage m lines = record { stage = stage; memory = m; lines = lines }
+abbrev pub progress : {B : Type 0} → (B → Memory) → Session B → Progress
+progress byte s = record { stage = s.stage; memory = byte s.board; lines = s.lines }
 
 -- no line was read, and the core was never reset
 abbrev pub fresh : Memory → Progress
-fresh m = progress (Unreset (record {})) m 0
+fresh m = record { stage = Unreset (record {}); memory = m; lines = 0 }
 
 -- what a line answers, and how far the session has come then
 pub record Handled : Type 0 where
   pub answer : LineResult
-  pub progress : Progress
+  pub after : Progress
 
-abbrev pub handled : LineResult → Stage → Memory → ℕ → Handled
-handled answer stage m lines = record { answer = answer; progress = progress stage m lines }
+abbrev pub handled : LineResult → Progress → Handled
+handled answer p = record { answer = answer; after = p }
 
-abbrev pub unchanged : Progress → LineResult → Handled
-unchanged p answer = record { answer = answer; progress = p }
+abbrev pub write_answer : Result (Unit {0}) Refusal → LineResult
+write_answer (Ok _) = Ok Written
+write_answer (Err e) = Err (Bus e)
+
+abbrev pub wrote : Progress → Result Memory Refusal → Handled
+wrote p r = handled (write_answer (answer_of r)) (record p { memory = memory_after p.memory r })
 
 -- a word is written before the first run only
-abbrev pub written : Result (Unit {0}) Refusal → LineResult
-written (Ok _) = Ok Written
-written (Err e) = Err (Bus e)
-
 abbrev pub write_by_stage : Stage → Progress → ℕ → ℕ → Handled
-write_by_stage (Running s) p at word = unchanged p (Err OutOfPlace)
-write_by_stage (Unreset u) p at word = record { answer = written (answer_of (write_of p.memory at 4 word)); progress = record p { memory = memory_after p.memory (write_of p.memory at 4 word) } }
+write_by_stage (Unreset u) p at word = wrote p (write_of p.memory at 4 word)
+write_by_stage (Running s) p at word = handled (Err OutOfPlace) p
 
 abbrev pub write_word : Progress → ℕ → ℕ → Handled
 write_word p at word = write_by_stage p.stage p at word
@@ -61,31 +62,31 @@ abbrev pub core_to_run : Stage → State
 core_to_run (Unreset u) = reset_state
 core_to_run (Running s) = s
 
-abbrev pub ran : State → Result RunReport CallRefusal → LineResult
-ran s (Ok report) = Ok (Ran report s.user.pc)
-ran s (Err e) = Err (Call e)
+abbrev pub run_answer : State → Result RunReport CallRefusal → LineResult
+run_answer s (Ok report) = Ok (Ran report s.user.pc)
+run_answer s (Err e) = Err (Call e)
 
-abbrev pub after_run : Progress → Outcome (Result RunReport CallRefusal) → Handled
-after_run p o = record { answer = ran o.state o.answer; progress = progress (Running o.state) o.memory p.lines }
+abbrev pub ran : Progress → Outcome (Result RunReport CallRefusal) → Handled
+ran p o = handled (run_answer o.state o.answer) (record p { stage = Running o.state; memory = o.memory })
 
 -- with all levels 0
 abbrev pub run_core : Progress → ℕ → Handled
-run_core p count = after_run p (core.run (core_to_run p.stage) count 0 p.memory)
+run_core p count = ran p (core.run (core_to_run p.stage) count 0 p.memory)
 
-abbrev pub register_told : ℕ → Result ℕ CallRefusal → LineResult
-register_told number (Ok value) = Ok (Register number value)
-register_told number (Err e) = Err (Call e)
+abbrev pub register_answer : ℕ → Result ℕ CallRefusal → LineResult
+register_answer number (Ok value) = Ok (Register number value)
+register_answer number (Err e) = Err (Call e)
 
 -- a register is read after the first run only
 abbrev pub register_by_stage : Stage → ℕ → LineResult
 register_by_stage (Unreset u) number = Err OutOfPlace
-register_by_stage (Running s) number = register_told number (core.register_read s number)
+register_by_stage (Running s) number = register_answer number (core.register_read s number)
 
 abbrev pub read_register : Progress → ℕ → Handled
-read_register p number = unchanged p (register_by_stage p.stage number)
+read_register p number = handled (register_by_stage p.stage number) p
 
 abbrev pub perform_form : Progress → Option Form → Handled
-perform_form p None = unchanged p (Err NoForm)
+perform_form p None = handled (Err NoForm) p
 perform_form p (Some (write address value)) = write_word p (hex_value address) (hex_value value)
 perform_form p (Some (run count)) = run_core p (decimal_value count)
 perform_form p (Some (register number)) = read_register p (decimal_value number)
@@ -102,20 +103,20 @@ abbrev pub read_line : Progress → List ℕ → Handled
 read_line p line = perform (counted p) line
 
 abbrev pub handle : Progress → Contents → List ℕ → Handled
-handle p listing line = cond (is_full listing) (unchanged p (Err ListingFull)) (read_line p line)
+handle p listing line = cond (is_full listing) (handled (Err ListingFull) p) (read_line p line)
 
 -- what a line that was read writes into the listing
 abbrev pub line_told : Handled → List ℕ
-line_told h = told h.progress.lines h.answer
+line_told h = told h.after.lines h.answer
 
 -- lines one after the other: what they write in all, and how far the session has come then
 abbrev pub lines_told : Progress → List (List ℕ) → List ℕ
 lines_told p [] = []
-lines_told p (line ∷ lines) = line_told (read_line p line) ++ lines_told (read_line p line).progress lines
+lines_told p (line ∷ lines) = line_told (read_line p line) ++ lines_told (read_line p line).after lines
 
 abbrev pub after_lines : Progress → List (List ℕ) → Progress
 after_lines p [] = p
-after_lines p (line ∷ lines) = after_lines (read_line p line).progress lines
+after_lines p (line ∷ lines) = after_lines (read_line p line).after lines
 
 -- the first lines of a text were handled, and no other
 abbrev pub SomeHandled : Progress → List (List ℕ) → Progress → Type 0

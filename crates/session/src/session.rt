@@ -25,7 +25,7 @@ pub struct Session<B> {
 
 impl<B: Bus> Session<B> {
     pub fn new(board: B) -> Session<B>
-        ensures progress { progress result.stage (B.byte result.board) result.lines ≡ fresh (B.byte board) }
+        ensures progress { progress B.byte result ≡ fresh (B.byte board) }
         ensures kept { B.layout result.board ≡ B.layout board }
     {
         Session {
@@ -41,10 +41,10 @@ impl<B: Bus> Session<B> {
         line: &[u8],
         listing: &mut Listing<'_>,
     ) -> Result<LineAnswer, LineRefusal>
-        ensures value { handled result self.new.stage (B.byte self.new.board) self.new.lines ≡ handle (progress self.old.stage (B.byte self.old.board) self.old.lines) (contents listing.old) line.now }
+        ensures value { handled result (progress B.byte self.new) ≡ handle (progress B.byte self.old) (contents listing.old) line.now }
 
         // A refusal leaves the core and the memory as they were, but for the reset before a first run that is too long.
-        ensures refused { IfErr result (λ e. Left e self.old.stage (B.byte self.old.board) (progress self.new.stage (B.byte self.new.board) self.new.lines)) }
+        ensures refused { IfErr result (λ e. Left e self.old.stage (B.byte self.old.board) (progress B.byte self.new)) }
 
         // What the line brings about stands behind what the listing held, and the bytes behind that are as they were.
         ensures listing { contents listing.new ≡ with_text (contents listing.old) (told self.new.lines result) }
@@ -61,7 +61,7 @@ impl<B: Bus> Session<B> {
     }
 
     fn perform(&mut self, line: &[u8]) -> Result<LineAnswer, LineRefusal>
-        ensures value { handled result self.new.stage (B.byte self.new.board) self.new.lines ≡ perform (progress self.old.stage (B.byte self.old.board) self.old.lines) line.now }
+        ensures value { handled result (progress B.byte self.new) ≡ perform (progress B.byte self.old) line.now }
         ensures kept { B.layout self.new.board ≡ B.layout self.old.board }
     {
         match SetupLine::read(line) {
@@ -75,7 +75,7 @@ impl<B: Bus> Session<B> {
     }
 
     fn write(&mut self, at: PhysAddr, word: u32) -> Result<LineAnswer, LineRefusal>
-        ensures value { handled result self.new.stage (B.byte self.new.board) self.new.lines ≡ write_word (progress self.old.stage (B.byte self.old.board) self.old.lines) at.0 word }
+        ensures value { handled result (progress B.byte self.new) ≡ write_word (progress B.byte self.old) at.0 word }
         ensures kept { B.layout self.new.board ≡ B.layout self.old.board }
     {
         match &self.stage {
@@ -89,7 +89,7 @@ impl<B: Bus> Session<B> {
 
     // The first run resets the core, also if it is refused then.
     fn run(&mut self, count: u32) -> Result<LineAnswer, LineRefusal>
-        ensures value { handled result self.new.stage (B.byte self.new.board) self.new.lines ≡ run_core (progress self.old.stage (B.byte self.old.board) self.old.lines) count }
+        ensures value { handled result (progress B.byte self.new) ≡ run_core (progress B.byte self.old) count }
         ensures kept { B.layout self.new.board ≡ B.layout self.old.board }
     {
         let mut core = match std::mem::replace(&mut self.stage, Stage::Unreset(UnresetCore)) {
@@ -106,7 +106,7 @@ impl<B: Bus> Session<B> {
     }
 
     fn register(&mut self, number: u32) -> Result<LineAnswer, LineRefusal>
-        ensures value { handled result self.new.stage (B.byte self.new.board) self.new.lines ≡ read_register (progress self.old.stage (B.byte self.old.board) self.old.lines) number }
+        ensures value { handled result (progress B.byte self.new) ≡ read_register (progress B.byte self.old) number }
         ensures kept { B.layout self.new.board ≡ B.layout self.old.board }
     {
         match &self.stage {

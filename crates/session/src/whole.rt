@@ -25,11 +25,11 @@ const BANK_BYTES: usize = 32_768;
 impl<B: Bus> Session<B> {
     // Handles the lines of a text and prints what each writes into the listing.
     pub fn print<W: Write>(&mut self, text: &[u8], out: &mut W) -> io::Result<()>
-        ensures printed { OnOk result (Appends (W.contents out.old) (W.contents out.new) (lines_told (progress self.old.stage (B.byte self.old.board) self.old.lines) (lines_of text.now))) }
-        ensures after { OnOk result (progress self.new.stage (B.byte self.new.board) self.new.lines ≡ after_lines (progress self.old.stage (B.byte self.old.board) self.old.lines) (lines_of text.now)) }
+        ensures printed { OnOk result (Appends (W.contents out.old) (W.contents out.new) (lines_told (progress B.byte self.old) (lines_of text.now))) }
+        ensures after { OnOk result (progress B.byte self.new ≡ after_lines (progress B.byte self.old) (lines_of text.now)) }
 
         // Where printing failed, the lines up to some line were handled.
-        ensures stopped { OnErr result (SomeHandled (progress self.old.stage (B.byte self.old.board) self.old.lines) (lines_of text.now) (progress self.new.stage (B.byte self.new.board) self.new.lines)) }
+        ensures stopped { OnErr result (SomeHandled (progress B.byte self.old) (lines_of text.now) (progress B.byte self.new)) }
         ensures kept { B.layout self.new.board ≡ B.layout self.old.board }
     {
         let mut rest = text;

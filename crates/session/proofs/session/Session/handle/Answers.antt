@@ -6,5 +6,5 @@ use Rattle.session.proofs.session.Session.handle.Goals as goal
 
 pub returns-clause-refused : goal.returns-clause-refused
 returns-clause-refused g c =
-    let p = progress c.args.self.now.stage (g.B.Bus.byte c.args.self.now.board) c.args.self.now.lines in
-    subst (Refused p) (sym c.perform-answer.ensures.value) (by_form (progress c.args.self.now.stage (g.B.Bus.byte c.args.self.now.board) c.saturating_add-self.result) (form_of c.args.line.now))
+    let p = progress g.B.Bus.byte c.args.self.now in
+    subst (Refused p) (sym c.perform-answer.ensures.value) (by_form (record p { lines = c.saturating_add-self.result }) (form_of c.args.line.now))

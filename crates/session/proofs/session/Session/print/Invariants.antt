@@ -12,9 +12,9 @@ decreases-loop-line g l = length l.rest
 abbrev pub invariant-loop-line : goal.invariant-loop-line
 invariant-loop-line g l =
     (Appends (g.W.Write.contents l.initial.out)
-    (append_known (g.W.Write.contents l.out) (lines_told (progress l.self.stage (g.B.Bus.byte l.self.board) l.self.lines) (lines_of l.rest)))
-    (lines_told (progress l.initial.self.stage (g.B.Bus.byte l.initial.self.board) l.initial.self.lines) (lines_of l.text)))
-    × (after_lines (progress l.self.stage (g.B.Bus.byte l.self.board) l.self.lines) (lines_of l.rest)
-    ≡ after_lines (progress l.initial.self.stage (g.B.Bus.byte l.initial.self.board) l.initial.self.lines) (lines_of l.text))
-    × SomeLeft (progress l.initial.self.stage (g.B.Bus.byte l.initial.self.board) l.initial.self.lines) (lines_of l.text) (progress l.self.stage (g.B.Bus.byte l.self.board) l.self.lines) (lines_of l.rest)
+    (append_known (g.W.Write.contents l.out) (lines_told (progress g.B.Bus.byte l.self) (lines_of l.rest)))
+    (lines_told (progress g.B.Bus.byte l.initial.self) (lines_of l.text)))
+    × (after_lines (progress g.B.Bus.byte l.self) (lines_of l.rest)
+    ≡ after_lines (progress g.B.Bus.byte l.initial.self) (lines_of l.text))
+    × SomeLeft (progress g.B.Bus.byte l.initial.self) (lines_of l.text) (progress g.B.Bus.byte l.self) (lines_of l.rest)
     × (g.B.Bus.layout l.self.board ≡ g.B.Bus.layout l.initial.self.board)
