@@ -1,11 +1,11 @@
 -- Numbers written in decimal digits are read as what they were, and the other way round.
-use Rattle.std.proofs.Common.{◌≡◌, refl, ap, subst, ◌∙◌, ℕ, ◌+◌, ◌-◌, ◌*◌, ◌^◌, ◌<◌, ◌≤◌, Bool, true, false, ◌&&◌, nat_le, List, [], ◌∷◌, length, arith, ◌==◌, decimal}
+use Rattle.std.proofs.Common.{◌≡◌, refl, sym, ap, subst, ◌∙◌, ℕ, ◌+◌, ◌-◌, ◌*◌, ◌^◌, ◌<◌, ◌≤◌, Bool, true, false, ◌&&◌, nat_le, List, [], ◌∷◌, length, arith, ◌==◌, decimal}
 use native.Mathlib.Nat.{pow-le-pow_right}
 use Rattle.std.specs.Char.{is_ascii_digit}
 use Rattle.std.specs.Str.{all_ascii_digits}
 use Rattle.std.proofs.lemmas.Bool.{and_parts, eqb-true, leb-true}
 use Rattle.std.proofs.lemmas.Str.Parse.{IsNumeralModel, numerals_by_fold, tells_all_ascii_digits}
-use Rattle.std.proofs.lemmas.Fmt.{decimal-digits_value, digits_value-decimal}
+use Rattle.std.proofs.lemmas.Fmt.{decimal_nonempty, digits_decimal, decimal-digits_value, digits_value-decimal}
 use Rattle.numerals.specs.Decimal.{is_decimal_field, decimal_value_after, decimal_value, without_leading_zeros}
 
 -- a number of fewer than nine digits leaves room for one more in a word
@@ -37,3 +37,9 @@ pub written : (ds : List ℕ) → is_decimal_field ds ≡ true → decimal_value
 written ds form small =
     let parts = and_parts (nat_le 1 (length ds)) (nat_le (length ds) 9 && all_ascii_digits ds) form in
     digits_written ds (and_parts (nat_le (length ds) 9) (all_ascii_digits ds) parts.1).1 (omega (arith, leb-true 1 (length ds) parts.0)) small
+
+pub form : (n : ℕ) → n < 2 ^ 64 → (all_ascii_digits (decimal n) ≡ true) × (without_leading_zeros (decimal n) ≡ decimal n)
+form n small =
+    let digits = digits_decimal model n small in
+    let same = read_back n small in
+    (digits, sym (digits_written (decimal n) digits (decimal_nonempty n small) (omega (arith, same))) ∙ ap decimal same)

@@ -56,6 +56,7 @@ impl<'a> DecimalField<'a> {
 pub fn decimal_digits(number: u32, buffer: &mut Buffer) -> &[u8]
     ensures value { result.now ≡ decimal number }
     ensures short { length result.now ≤ 10 }
+    ensures form { (all_ascii_digits result.now ≡ true) × (without_leading_zeros result.now ≡ result.now) }
 
     // They are read as the number again.
     ensures read_back { decimal_value result.now ≡ number }

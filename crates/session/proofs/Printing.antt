@@ -8,7 +8,8 @@ use Rattle.std.specs.Io.KnownBytes.{Appends, append_known}
 use Rattle.session.specs.declared.answer.LineRefusal.TheVariants.{ListingFull}
 use Rattle.session.specs.declared.listing.Listing.{Listing}
 use Rattle.session.specs.Listings.{Contents, contents}
-use Rattle.session.specs.Sessions.{Progress, Handled, handled, read_line, handle, after_lines, SomeHandled}
+use Rattle.session.specs.SetUp.{text_read}
+use Rattle.session.specs.Sessions.{Progress, Handled, handled, read_line, handle, after_lines, LeftAt}
 
 -- a listing that begins empty in memory of 40 bytes
 pub begun : (l : Listing) (memory : List ℕ) → l.used ≡ min 0 (length memory) → l.memory.now ≡ memory → length memory ≡ 40 → (40 ≤ length (contents l).free) × ((contents l).written ≡ [])
@@ -38,12 +39,13 @@ pub one_more : (p q : Progress) (lines : List (List ℕ)) (line : List ℕ) (lef
 one_more p q lines line left so_far =
     (so_far.0 ++ (line ∷ []), append_assoc so_far.0 (line ∷ []) left ∙ so_far.1, ap (λ r. (read_line r line).after) so_far.2 ∙ sym (after_more p so_far.0 line))
 
-pub stopped : {T E : Type 0} (r : Result T E) (p q : Progress) (lines left : List (List ℕ)) → SomeLeft p lines q left → OnErr r (SomeHandled p lines q)
-stopped (Ok x) p q lines left so_far = tt
-stopped (Err e) p q lines left so_far = (so_far.0, left, so_far.1, so_far.2)
+-- where printing fails behind a line
+pub stopped : {T E : Type 0} (r : Result T E) (p q : Progress) (lines : List (List ℕ)) (line : List ℕ) (left : List (List ℕ)) → SomeLeft p lines q (line ∷ left) → OnErr r (LeftAt p lines (read_line q line).after)
+stopped (Ok x) p q lines line left so_far = tt
+stopped (Err e) p q lines line left so_far = (so_far.0, line, left, so_far.1, ap (λ r. (read_line r line).after) so_far.2 ∙ sym (after_more p so_far.0 line))
 
 -- a text of which no more than a limit was read
 pub limited : (known : Option (List ℕ)) (limit : ℕ) (before items : List ℕ) → limit ≡ 65536 → before ≡ []
-    → IfSome (option_map (take limit) known) (λ bytes. items ≡ before ++ bytes) → IfSome known (λ bytes. items ≡ take 65536 bytes)
+    → IfSome (option_map (take limit) known) (λ bytes. items ≡ before ++ bytes) → IfSome known (λ bytes. items ≡ text_read bytes)
 limited None limit before items at empty read = tt
 limited (Some bytes) limit before items at empty read = read ∙ (λ i. empty i ++ take (at i) bytes)

@@ -1,48 +1,60 @@
--- What a refused line leaves.
-use Rattle.std.proofs.Common.{refl, ℕ, Bool, true, false, Some, None, Option, Ok, Err, Result, nat_lt, cond}
+-- Why a line is refused, and what it leaves.
+use Rattle.std.proofs.Common.{◌≡◌, refl, ap, sym, ◌∙◌, ℕ, ◌<◌, Bool, true, false, List, Some, None, Option, Ok, Err, Result, cond, nat_lt, arith}
 use Rattle.std.specs.Prelude.{IfErr}
+use Rattle.std.proofs.lemmas.Bool.{ltb-true, ltb-false}
+use Rattle.std.proofs.lemmas.Option.{none-some}
 use Rattle.bus.specs.declared.refusal.Refusal.{Refusal}
-use Rattle.bus.specs.declared.refusal.Refusal.TheVariants.{Misaligned, Absent, Fixed}
-use Rattle.bus.specs.Memory.{Memory, write_of}
-use Rattle.numerals.specs.Hexadecimal.{hex_value}
-use Rattle.numerals.specs.Decimal.{decimal_value}
-use Rattle.setup.specs.Lines.{Form, write, run, register}
+use Rattle.bus.specs.Memory.{Memory, write_of, answer_of, memory_after}
+use Rattle.bus.proofs.Ruling.{write_rule}
 use Rattle.isa.specs.Fields.{reg_of}
 use Rattle.actions.specs.Registers.{gr}
+use Rattle.numerals.specs.Hexadecimal.{hex_value}
+use Rattle.numerals.specs.Decimal.{decimal_value}
+use Rattle.setup.specs.Lines.{Form, write, run, register, form_of}
+use Rattle.setup.proofs.Forms.{exact}
 use Rattle.machine.specs.declared.answers.CallRefusal.TheVariants.{NoRegister}
 use Rattle.machine.specs.Calls.{by_length}
 use Rattle.session.specs.declared.session.Stage.{Stage}
 use Rattle.session.specs.declared.session.Stage.TheVariants.{Unreset, Running}
-use Rattle.session.specs.Sessions.{Progress, Handled, handled, wrote, write_by_stage, core_to_run, ran, register_answer, register_by_stage, perform_form, Left}
+use Rattle.session.specs.Listings.{Contents, is_full}
+use Rattle.session.specs.Sessions.{Progress, Handled, handled, wrote, write_by_stage, core_to_run, ran, register_answer, register_by_stage, perform_form, counted, read_line}
+use Rattle.session.specs.Refused.{Is, out_of_place, no_form, not_here, by_bus, too_long, no_register, Refused}
 
--- what a line leaves if it is refused
-abbrev pub Refused : Progress → Handled → Type 0
-Refused p h = IfErr h.answer (λ e. Left e p.stage p.memory h.after)
+module _ (p : Progress) (listing : Contents) (line : List ℕ) (room : is_full listing ≡ false) where
+  abbrev IfRefused : Handled → Type 0
+  IfRefused h = IfErr h.answer (λ e. Refused e p listing line h.after)
 
-by_bus : (p : Progress) (r : Result Memory Refusal) → Refused p (wrote p r)
-by_bus p (Ok n) = tt
-by_bus p (Err (Misaligned)) = record { memory = refl; core = refl }
-by_bus p (Err (Absent at)) = record { memory = refl; core = refl }
-by_bus p (Err (Fixed at)) = record { memory = refl; core = refl }
+  by_write : (address value : List ℕ) → Is (write address value) line → out_of_place (write address value) p.stage ≡ false → (r : Result Memory Refusal)
+      → write_of p.memory (hex_value address) 4 (hex_value value) ≡ r → IfRefused (wrote (counted p) r)
+  by_write address value is here (Ok n) e = tt
+  by_write address value is here (Err x) e = record {
+    reason = by_bus address value x room is here (write_rule p.memory (hex_value address) 4 (hex_value value) (Err x) p.memory (record { answer = sym (ap answer_of e); after = sym (ap (memory_after p.memory) e) }));
+    leaves = refl;
+  }
 
-by_stage : (stage : Stage) (p : Progress) (at word : ℕ) → Refused p (write_by_stage stage p at word)
-by_stage (Unreset u) p at word = by_bus p (write_of p.memory at 4 word)
-by_stage (Running s) p at word = record { memory = refl; core = refl }
+  by_stage : (address value : List ℕ) → Is (write address value) line → (stage : Stage) → p.stage ≡ stage → IfRefused (write_by_stage stage (counted p) (hex_value address) (hex_value value))
+  by_stage address value is (Unreset u) e = by_write address value is (ap (out_of_place (write address value)) e) (write_of p.memory (hex_value address) 4 (hex_value value)) refl
+  by_stage address value is (Running s) e = record { reason = not_here (write address value) room is (ap (out_of_place (write address value)) e); leaves = refl }
 
-by_count : (too_long : Bool) (p : Progress) (count : ℕ) → Refused p (ran p (by_length too_long count 0 (core_to_run p.stage) p.memory))
-by_count true p count = record { memory = refl; core = refl }
-by_count false p count = tt
+  by_count : (count : List ℕ) → Is (run count) line → (long : Bool) → nat_lt 65536 (decimal_value count) ≡ long
+      → IfRefused (ran (counted p) (by_length long (decimal_value count) 0 (core_to_run p.stage) p.memory))
+  by_count count is true e = record { reason = too_long count room is (ltb-true 65536 (decimal_value count) e); leaves = refl }
+  by_count count is false e = tt
 
-by_number : (fits : Bool) (p : Progress) (number value : ℕ) → Refused p (handled (register_answer number (cond fits (Ok value) (Err NoRegister))) p)
-by_number true p number value = tt
-by_number false p number value = record { memory = refl; core = refl }
+  by_number : (number : List ℕ) (value : ℕ) → Is (register number) line → out_of_place (register number) p.stage ≡ false → (fits : Bool) → nat_lt (decimal_value number) 32 ≡ fits
+      → IfRefused (handled (register_answer (decimal_value number) (cond fits (Ok value) (Err NoRegister))) (counted p))
+  by_number number value is here true e = tt
+  by_number number value is here false e = record { reason = no_register number room is here (ltb-false (decimal_value number) 32 e); leaves = refl }
 
-by_register : (stage : Stage) (p : Progress) (number : ℕ) → Refused p (handled (register_by_stage stage number) p)
-by_register (Unreset u) p number = record { memory = refl; core = refl }
-by_register (Running s) p number = by_number (nat_lt number 32) p number (gr s.user.general (reg_of number))
+  by_register : (number : List ℕ) → Is (register number) line → (stage : Stage) → p.stage ≡ stage → IfRefused (handled (register_by_stage stage (decimal_value number)) (counted p))
+  by_register number is (Unreset u) e = record { reason = not_here (register number) room is (ap (out_of_place (register number)) e); leaves = refl }
+  by_register number is (Running s) e = by_number number (gr s.user.general (reg_of (decimal_value number))) is (ap (out_of_place (register number)) e) (nat_lt (decimal_value number) 32) refl
 
-pub by_form : (p : Progress) (f : Option Form) → Refused p (perform_form p f)
-by_form p None = record { memory = refl; core = refl }
-by_form p (Some (write address value)) = by_stage p.stage p (hex_value address) (hex_value value)
-by_form p (Some (run count)) = by_count (nat_lt 65536 (decimal_value count)) p (decimal_value count)
-by_form p (Some (register number)) = by_register p.stage p (decimal_value number)
+  by_form : (f : Option Form) → form_of line ≡ f → IfRefused (perform_form (counted p) f)
+  by_form None e = record { reason = no_form room (λ f is. none-some f (sym e ∙ (exact line).complete f is.0 is.1)); leaves = refl }
+  by_form (Some (write address value)) e = by_stage address value ((exact line).sound (write address value) e) p.stage refl
+  by_form (Some (run count)) e = by_count count ((exact line).sound (run count) e) (nat_lt 65536 (decimal_value count)) refl
+  by_form (Some (register number)) e = by_register number ((exact line).sound (register number) e) p.stage refl
+
+  pub refused : IfRefused (read_line p line)
+  refused = by_form (form_of line) refl

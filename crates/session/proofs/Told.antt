@@ -13,7 +13,7 @@ use Rattle.machine.specs.declared.answers.CallRefusal.TheVariants.{NoRegister, N
 use Rattle.session.specs.declared.answer.LineRefusal.{LineRefusal}
 use Rattle.session.specs.declared.answer.LineRefusal.TheVariants.{NoForm, OutOfPlace, Bus, Call, ListingFull}
 use Rattle.session.specs.Answers.{line_refusal_number}
-use Rattle.session.specs.Listings.{Contents, with_text, line_of, run_line, refusal_line, cut_line, report_lines}
+use Rattle.session.specs.Listings.{Contents, with_text, comma_line, run_line, refusal_line, cut_line, report_lines}
 
 with_more : (c : Contents) (xs ys : List ℕ) → with_text (with_text c xs) ys ≡ with_text c (xs ++ ys)
 with_more c xs ys =
@@ -27,14 +27,14 @@ joined a b c xs ys first second = second ∙ ap (λ x. with_text x ys) first ∙
 pub room : (a b : Contents) (xs : List ℕ) → b ≡ with_text a xs → length b.free ≡ length a.free - length xs
 room a b xs e = ap (λ c. length c.free) e ∙ length-drop (length xs) a.free
 
-pub line_size : (word first second : List ℕ) → length (line_of word first second) ≡ length word + length first + length second + 3
+pub line_size : (word first second : List ℕ) → length (comma_line word first second) ≡ length word + length first + length second + 3
 line_size word first second =
     let end : List ℕ = second ++ (10 ∷ []) in
     omega (arith, length-append word (44 ∷ (first ++ (44 ∷ end))), length-append first (44 ∷ end), length-append second (10 ∷ []))
 
 pub line_told : (c0 c1 c2 c3 c4 c5 c6 : Contents) (word first second : List ℕ)
     → c1 ≡ with_text c0 word → c2 ≡ with_text c1 (codes ",") → c3 ≡ with_text c2 first → c4 ≡ with_text c3 (codes ",") → c5 ≡ with_text c4 second → c6 ≡ with_text c5 (10 ∷ [])
-    → c6 ≡ with_text c0 (line_of word first second)
+    → c6 ≡ with_text c0 (comma_line word first second)
 line_told c0 c1 c2 c3 c4 c5 c6 word first second e1 e2 e3 e4 e5 e6 =
     let end : List ℕ = second ++ (10 ∷ []) in
     joined c0 c1 c6 word (44 ∷ (first ++ (44 ∷ end))) e1

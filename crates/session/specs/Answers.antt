@@ -3,7 +3,7 @@ use Rattle.std.specs.Prelude.{ℕ, Some, None, Option, Result}
 use Rattle.bus.specs.declared.address.PhysAddr.{PhysAddr}
 use Rattle.bus.specs.Refusals.{refusal_number, refusal_address}
 use Rattle.machine.specs.declared.answers.StepRefusal.{StepRefusal}
-use Rattle.machine.specs.Answers.{step_refusal_number, call_refusal_number}
+use Rattle.machine.specs.Answers.{step_refusal_number, step_refusal_address, call_refusal_number}
 use Rattle.session.specs.declared.answer.LineAnswer.{LineAnswer}
 use Rattle.session.specs.declared.answer.LineAnswer.TheVariants.{Written, Ran, Register}
 use Rattle.session.specs.declared.answer.LineRefusal.{LineRefusal}
@@ -21,6 +21,16 @@ abbrev pub line_answer_number : LineAnswer → ℕ
 line_answer_number Written = 0
 line_answer_number (Ran report pc) = run_number report.refusal
 line_answer_number (Register number value) = 0
+
+-- of the refused step that cut a run short
+abbrev pub run_address : Option StepRefusal → Option PhysAddr
+run_address None = None
+run_address (Some e) = step_refusal_address e
+
+abbrev pub line_answer_address : LineAnswer → Option PhysAddr
+line_answer_address Written = None
+line_answer_address (Ran report pc) = run_address report.refusal
+line_answer_address (Register number value) = None
 
 abbrev pub line_refusal_number : LineRefusal → ℕ
 line_refusal_number NoForm = 10

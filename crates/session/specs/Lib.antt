@@ -1,4 +1,5 @@
 pub mod Answers
 pub mod Listings
+pub mod Refused
 pub mod Sessions
-pub mod Whole
+pub mod SetUp

@@ -11,17 +11,17 @@ use Rattle.session.specs.declared.listing.Listing.{Listing}
 use Rattle.session.specs.Answers.{LineResult, line_refusal_number}
 
 -- a word and two fields, parted by commas
-abbrev pub line_of : List ℕ → List ℕ → List ℕ → List ℕ
-line_of word first second = word ++ (codes "," ++ (first ++ (codes "," ++ (second ++ (10 ∷ [])))))
+abbrev pub comma_line : List ℕ → List ℕ → List ℕ → List ℕ
+comma_line word first second = word ++ (codes "," ++ (first ++ (codes "," ++ (second ++ (10 ∷ [])))))
 
 abbrev pub run_line : ℕ → ℕ → List ℕ
-run_line steps pc = line_of (codes "run") (decimal steps) (hex_text pc)
+run_line steps pc = comma_line (codes "run") (decimal steps) (hex_text pc)
 
 abbrev pub register_line : ℕ → ℕ → List ℕ
-register_line number value = line_of (codes "reg") (decimal number) (hex_text value)
+register_line number value = comma_line (codes "reg") (decimal number) (hex_text value)
 
 abbrev pub refusal_line : ℕ → ℕ → List ℕ
-refusal_line line number = line_of (codes "no") (decimal line) (decimal number)
+refusal_line line number = comma_line (codes "no") (decimal line) (decimal number)
 
 -- of a run that was cut short
 abbrev pub cut_line : ℕ → Option StepRefusal → List ℕ
@@ -36,8 +36,8 @@ abbrev pub told : ℕ → LineResult → List ℕ
 told line (Ok Written) = []
 told line (Ok (Ran report pc)) = report_lines line report pc
 told line (Ok (Register number value)) = register_line number value
-told line (Err NoForm) = refusal_line line 10
-told line (Err OutOfPlace) = refusal_line line 11
+told line (Err NoForm) = refusal_line line (line_refusal_number NoForm)
+told line (Err OutOfPlace) = refusal_line line (line_refusal_number OutOfPlace)
 told line (Err (Bus e)) = refusal_line line (line_refusal_number (Bus e))
 told line (Err (Call e)) = refusal_line line (line_refusal_number (Call e))
 told line (Err ListingFull) = []

@@ -7,13 +7,11 @@ use Rattle.numerals.specs.Decimal.{decimal_value}
 use Rattle.setup.specs.Lines.{Form, write, run, register, form_of}
 use Rattle.machine.specs.declared.answers.RunReport.{RunReport}
 use Rattle.machine.specs.declared.answers.CallRefusal.{CallRefusal}
-use Rattle.machine.specs.declared.answers.CallRefusal.TheVariants.{NoRegister, NoControlRegister, NoTlbEntry, RunTooLong}
 use Rattle.machine.specs.declared.state.State.{State}
 use Rattle.machine.specs.Outcomes.{Outcome}
 use Rattle.machine.specs.State.{reset_state}
 use Rattle.machine.specs.Calls as core
 use Rattle.session.specs.declared.answer.LineAnswer.TheVariants.{Written, Ran, Register}
-use Rattle.session.specs.declared.answer.LineRefusal.{LineRefusal}
 use Rattle.session.specs.declared.answer.LineRefusal.TheVariants.{NoForm, OutOfPlace, Bus, Call, ListingFull}
 use Rattle.session.specs.declared.session.Session.{Session}
 use Rattle.session.specs.declared.session.Stage.{Stage}
@@ -25,14 +23,14 @@ use Rattle.session.specs.Listings.{Contents, is_full, told}
 pub record Progress : Type 0 where
   pub stage : Stage
   pub memory : Memory
-  pub lines : ℕ
+  pub lines_read : ℕ
 
 abbrev pub progress : {B : Type 0} → (B → Memory) → Session B → Progress
-progress byte s = record { stage = s.stage; memory = byte s.board; lines = s.lines }
+progress byte s = record { stage = s.stage; memory = byte s.board; lines_read = s.lines_read }
 
 -- no line was read, and the core was never reset
 abbrev pub fresh : Memory → Progress
-fresh m = record { stage = Unreset (record {}); memory = m; lines = 0 }
+fresh m = record { stage = Unreset (record {}); memory = m; lines_read = 0 }
 
 -- what a line answers, and how far the session has come then
 pub record Handled : Type 0 where
@@ -96,7 +94,7 @@ perform p line = perform_form p (form_of line)
 
 -- lines are counted from 1, up to the greatest number of 32 bits
 abbrev pub counted : Progress → Progress
-counted p = record p { lines = min (p.lines + 1) (2 ^ 32 - 1) }
+counted p = record p { lines_read = min (p.lines_read + 1) (2 ^ 32 - 1) }
 
 -- a line that is read
 abbrev pub read_line : Progress → List ℕ → Handled
@@ -107,7 +105,7 @@ handle p listing line = cond (is_full listing) (handled (Err ListingFull) p) (re
 
 -- what a line that was read writes into the listing
 abbrev pub line_told : Handled → List ℕ
-line_told h = told h.after.lines h.answer
+line_told h = told h.after.lines_read h.answer
 
 -- lines one after the other: what they write in all, and how far the session has come then
 abbrev pub lines_told : Progress → List (List ℕ) → List ℕ
@@ -118,21 +116,7 @@ abbrev pub after_lines : Progress → List (List ℕ) → Progress
 after_lines p [] = p
 after_lines p (line ∷ lines) = after_lines (read_line p line).after lines
 
--- the first lines of a text were handled, and no other
-abbrev pub SomeHandled : Progress → List (List ℕ) → Progress → Type 0
-SomeHandled p lines q = (done : List (List ℕ)) × (left : List (List ℕ)) × (done ++ left ≡ lines) × (q ≡ after_lines p done)
-
--- a refusal leaves the core as it was, but a run that is too long has reset one that was never reset
-abbrev pub stage_left : LineRefusal → Stage → Stage
-stage_left NoForm stage = stage
-stage_left OutOfPlace stage = stage
-stage_left (Bus e) stage = stage
-stage_left (Call NoRegister) stage = stage
-stage_left (Call NoControlRegister) stage = stage
-stage_left (Call NoTlbEntry) stage = stage
-stage_left (Call RunTooLong) stage = Running (core_to_run stage)
-stage_left ListingFull stage = stage
-
-pub record Left (e : LineRefusal) (stage : Stage) (m : Memory) (q : Progress) : Type 0 where
-  pub memory : q.memory ≡ m
-  pub core : q.stage ≡ stage_left e stage
+-- a text was left at one of its lines: those up to it were handled, and it too, and no other
+abbrev pub LeftAt : Progress → List (List ℕ) → Progress → Type 0
+LeftAt p lines q =
+    (done : List (List ℕ)) × (line : List ℕ) × (left : List (List ℕ)) × (done ++ (line ∷ left) ≡ lines) × (q ≡ after_lines p (done ++ (line ∷ [])))

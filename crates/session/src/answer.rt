@@ -1,6 +1,6 @@
 // What the lines of a set-up answer.
 ghost use Rattle.std.specs.Prelude.{◌≡◌};
-ghost use Rattle.session.specs.Answers.{run_number, line_answer_number, line_refusal_number, line_refusal_address};
+ghost use Rattle.session.specs.Answers.{run_number, line_answer_number, line_answer_address, line_refusal_number, line_refusal_address};
 
 use bus::{PhysAddr, Refusal};
 use machine::{CallRefusal, RunReport};
@@ -16,7 +16,7 @@ pub enum LineAnswer {
     Register { number: u32, value: u32 },
 }
 
-// Why a line did nothing.
+// Why a line was refused.
 #[derive(Clone, Copy, PartialEq, Eq, Debug)]
 pub enum LineRefusal {
     // It is no line of a set-up, or has no LF.
@@ -42,6 +42,16 @@ impl LineAnswer {
                 None => 0,
             },
             LineAnswer::Written | LineAnswer::Register { .. } => 0,
+        }
+    }
+
+    // The physical address of that step's access.
+    pub fn address(&self) -> Option<PhysAddr>
+        ensures { result ≡ line_answer_address self.now }
+    {
+        match self {
+            LineAnswer::Ran { report, .. } => report.refusal?.address(),
+            LineAnswer::Written | LineAnswer::Register { .. } => None,
         }
     }
 }

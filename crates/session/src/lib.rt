@@ -5,11 +5,11 @@ pub mod answer;
 mod lines;
 pub mod listing;
 pub mod session;
+pub mod set_up;
 #[cfg(test)]
 mod tests;
-pub mod whole;
 
 pub use answer::{LineAnswer, LineRefusal};
 pub use listing::Listing;
 pub use session::Session;
-pub use whole::run_set_up;
+pub use set_up::{MOST_BYTES, print_listing, read_text};

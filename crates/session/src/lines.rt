@@ -1,6 +1,6 @@
 // What is written in a listing.
 ghost use Rattle.std.specs.Prelude.{◌≡◌, ◌≤◌, ◌+◌, length, decimal, false};
-ghost use Rattle.session.specs.Listings.{contents, with_text, is_full, line_of, run_line, register_line, refusal_line, report_lines, told};
+ghost use Rattle.session.specs.Listings.{contents, with_text, is_full, comma_line, run_line, register_line, refusal_line, report_lines, told};
 
 use crate::answer::{LineAnswer, LineRefusal};
 use crate::listing::Listing;
@@ -39,8 +39,8 @@ impl Listing<'_> {
 
     // A word and two fields, parted by commas.
     fn push_line(&mut self, word: &[u8], first: &[u8], second: &[u8])
-        requires { length (line_of word.now first.now second.now) ≤ length (contents self.old).free }
-        ensures contents { contents self.new ≡ with_text (contents self.old) (line_of word.now first.now second.now) }
+        requires { length (comma_line word.now first.now second.now) ≤ length (contents self.old).free }
+        ensures contents { contents self.new ≡ with_text (contents self.old) (comma_line word.now first.now second.now) }
         ensures lender { self.new.memory.ghost_name ≡ self.old.memory.ghost_name }
     {
         self.push(word);

@@ -1,7 +1,8 @@
 // A set-up's session: the board, and the core from the first run on.
-ghost use Rattle.std.specs.Prelude.{◌≡◌, IfErr};
+ghost use Rattle.std.specs.Prelude.{◌≡◌, true, IfErr};
 ghost use Rattle.session.specs.Listings.{contents, with_text, told};
-ghost use Rattle.session.specs.Sessions.{handled, progress, fresh, handle, perform, write_word, run_core, read_register, Left};
+ghost use Rattle.session.specs.Sessions.{handled, progress, fresh, handle, perform, write_word, run_core, read_register};
+ghost use Rattle.session.specs.Refused.{Refused, asks_no_bus};
 
 use crate::answer::{LineAnswer, LineRefusal};
 use crate::listing::Listing;
@@ -19,8 +20,8 @@ pub enum Stage {
 pub struct Session<B> {
     board: B,
     stage: Stage,
-    // How many lines were read; no more than the greatest number are counted.
-    lines: u32,
+    // Stays at the greatest number.
+    lines_read: u32,
 }
 
 impl<B: Bus> Session<B> {
@@ -31,8 +32,15 @@ impl<B: Bus> Session<B> {
         Session {
             board,
             stage: Stage::Unreset(UnresetCore),
-            lines: 0,
+            lines_read: 0,
         }
+    }
+
+    pub fn into_board(self) -> B
+        ensures { result ≡ self.board }
+    {
+        let Session { board, .. } = self;
+        board
     }
 
     // Handles a line and writes what it brings about behind what the listing holds. A line that finds the listing full is not read.
@@ -43,25 +51,27 @@ impl<B: Bus> Session<B> {
     ) -> Result<LineAnswer, LineRefusal>
         ensures value { handled result (progress B.byte self.new) ≡ handle (progress B.byte self.old) (contents listing.old) line.now }
 
-        // A refusal leaves the core and the memory as they were, but for the reset before a first run that is too long.
-        ensures refused { IfErr result (λ e. Left e self.old.stage (B.byte self.old.board) (progress B.byte self.new)) }
+        // Why a line is refused, and that it leaves core and memory, but for the reset before a first run that is too long.
+        ensures refused { IfErr result (λ e. Refused e (progress B.byte self.old) (contents listing.old) line.now (progress B.byte self.new)) }
+        ensures untouched { asks_no_bus result ≡ true → self.new.board ≡ self.old.board }
 
         // What the line brings about stands behind what the listing held, and the bytes behind that are as they were.
-        ensures listing { contents listing.new ≡ with_text (contents listing.old) (told self.new.lines result) }
+        ensures listing { contents listing.new ≡ with_text (contents listing.old) (told self.new.lines_read result) }
         ensures lender { listing.new.memory.ghost_name ≡ listing.old.memory.ghost_name }
         ensures kept { B.layout self.new.board ≡ B.layout self.old.board }
     {
         if listing.is_full() {
             return Err(LineRefusal::ListingFull);
         }
-        self.lines = self.lines.saturating_add(1);
+        self.lines_read = self.lines_read.saturating_add(1);
         let answer = self.perform(line);
-        listing.tell(self.lines, answer);
+        listing.tell(self.lines_read, answer);
         answer
     }
 
     fn perform(&mut self, line: &[u8]) -> Result<LineAnswer, LineRefusal>
         ensures value { handled result (progress B.byte self.new) ≡ perform (progress B.byte self.old) line.now }
+        ensures untouched { asks_no_bus result ≡ true → self.new.board ≡ self.old.board }
         ensures kept { B.layout self.new.board ≡ B.layout self.old.board }
     {
         match SetupLine::read(line) {
@@ -76,6 +86,7 @@ impl<B: Bus> Session<B> {
 
     fn write(&mut self, at: PhysAddr, word: u32) -> Result<LineAnswer, LineRefusal>
         ensures value { handled result (progress B.byte self.new) ≡ write_word (progress B.byte self.old) at.0 word }
+        ensures untouched { asks_no_bus result ≡ true → self.new.board ≡ self.old.board }
         ensures kept { B.layout self.new.board ≡ B.layout self.old.board }
     {
         match &self.stage {
@@ -90,6 +101,7 @@ impl<B: Bus> Session<B> {
     // The first run resets the core, also if it is refused then.
     fn run(&mut self, count: u32) -> Result<LineAnswer, LineRefusal>
         ensures value { handled result (progress B.byte self.new) ≡ run_core (progress B.byte self.old) count }
+        ensures untouched { asks_no_bus result ≡ true → self.new.board ≡ self.old.board }
         ensures kept { B.layout self.new.board ≡ B.layout self.old.board }
     {
         let mut core = match std::mem::replace(&mut self.stage, Stage::Unreset(UnresetCore)) {
@@ -107,6 +119,7 @@ impl<B: Bus> Session<B> {
 
     fn register(&mut self, number: u32) -> Result<LineAnswer, LineRefusal>
         ensures value { handled result (progress B.byte self.new) ≡ read_register (progress B.byte self.old) number }
+        ensures untouched { asks_no_bus result ≡ true → self.new.board ≡ self.old.board }
         ensures kept { B.layout self.new.board ≡ B.layout self.old.board }
     {
         match &self.stage {

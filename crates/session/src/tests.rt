@@ -1,7 +1,7 @@
-// What a listing's memory holds behind each line, by example.
+// Refusals that no set-up of `tintrun` comes to, and what stands in a listing's memory.
 use crate::{LineAnswer, LineRefusal, Listing, Session};
-use bus::PhysAddr;
-use parts::Bank;
+use bus::{PhysAddr, Refusal};
+use parts::{Bank, Image};
 
 #[test]
 fn a_listing_goes_on_until_too_little_is_free(rt: HostRuntime) {
@@ -38,4 +38,28 @@ fn a_listing_goes_on_until_too_little_is_free(rt: HostRuntime) {
         Err(LineRefusal::OutOfPlace)
     );
     assert_eq!(rt; emptied.text(), b"no,5,11\n".as_slice());
+}
+
+// The program sets r4 to 0x1C000000 and stores there.
+#[test]
+fn an_image_is_not_written(rt: HostRuntime) {
+    let words = [0x04u8, 0x00, 0x38, 0x14, 0x80, 0x00, 0x80, 0x29];
+    let mut session = Session::new(Image::new(PhysAddr(0x1c00_0000), &words));
+    let mut memory = [0u8; 80];
+    let mut listing = Listing::new(&mut memory, 0);
+    let fixed = LineRefusal::Bus(Refusal::Fixed(PhysAddr(0x1c00_0004)));
+    assert_eq!(rt;
+        session.handle(b"w,1C000004,00000000\n", &mut listing),
+        Err(fixed)
+    );
+    assert_eq!(rt;
+        session
+            .handle(b"g,9\n", &mut listing)
+            .map(|answer| (answer.number(), answer.address())),
+        Ok((9, Some(PhysAddr(0x1c00_0000))))
+    );
+    assert_eq!(rt;
+        listing.text(),
+        b"no,1,9\nrun,1,1C000004\nno,2,9\n".as_slice()
+    );
 }

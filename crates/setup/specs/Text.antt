@@ -1,5 +1,5 @@
 -- The lines of a text.
-use Rattle.std.specs.Prelude.{ℕ, suc, cond, List, [], ◌∷◌, ◌==◌}
+use Rattle.std.specs.Prelude.{◌≡◌, ◌≢◌, ℕ, suc, ◌-◌, ◌<◌, cond, ◌⊎◌, List, [], ◌∷◌, ◌++◌, length, slice_index, ◌==◌}
 
 -- b before the first line
 abbrev pub before_first : ℕ → List (List ℕ) → List (List ℕ)
@@ -15,3 +15,10 @@ lines_of (b ∷ bs) = cond (b == 10) ((b ∷ []) ∷ lines_of bs) (before_first 
 abbrev pub line_length : List ℕ → ℕ
 line_length [] = 0
 line_length (b ∷ bs) = cond (b == 10) 1 (suc (line_length bs))
+
+-- a text is its first line and what lies behind it: the line has a byte, no LF but at its end, and if none there, nothing lies behind it
+pub record FirstLine (text line behind : List ℕ) : Type 0 where
+  pub together : text ≡ line ++ behind
+  pub has_a_byte : 0 < length line
+  pub no_feed_before_its_end : (k : ℕ) → suc k < length line → slice_index line k ≢ 10
+  pub ended : (slice_index line (length line - 1) ≡ 10) ⊎ (behind ≡ [])

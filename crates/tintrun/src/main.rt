@@ -1,9 +1,15 @@
 //! Runs the set-up on standard input and prints its listing.
 #![tactic(auto)]
 
-use session::run_set_up;
+use anyhow::Context;
+use session::{MOST_BYTES, print_listing, read_text};
 use std::io;
 
 fn main(rt: HostRuntime) -> anyhow::Result<()> {
-    Ok(run_set_up(rt.alloc(), rt.reader(), &mut io::writer(&rt))?)
+    let text = read_text(rt.alloc(), rt.reader()).context("reading the set-up")?;
+    print_listing(text.as_slice(), &mut io::writer(&rt)).context("printing the listing")?;
+    if text.len() == MOST_BYTES {
+        eprintln!(rt; "tintrun: no more than {MOST_BYTES} bytes are read")?;
+    }
+    Ok(())
 }

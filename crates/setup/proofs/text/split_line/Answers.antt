@@ -1,7 +1,6 @@
-use Rattle.std.proofs.Common.{arith, ap, sym, ◌∙◌, ◌∷◌, take, drop}
-use Rattle.std.proofs.lemmas.Grind.{common_steps}
-use Rattle.setup.specs.Text.{lines_of}
-use Rattle.setup.proofs.FirstLine.{first_line, within, has_a_byte}
+use Rattle.std.proofs.Common.{arith, ap, sym, subst, ◌∙◌, ℕ, List, ◌∷◌, take, drop}
+use Rattle.setup.specs.Text.{lines_of, FirstLine}
+use Rattle.setup.proofs.FirstLine.{first_line, within, law}
 use Rattle.setup.proofs.text.split_line.Goals as goal
 
 pub split_at-requires : goal.split_at-requires
@@ -15,5 +14,9 @@ returns-clause-line c =
     ∙ ap (λ n. take n c.args.text.now ∷ lines_of (drop n c.args.text.now)) (sym c.line_length.ensures)
     ∙ (λ i. front i ∷ lines_of (back i))
 
-pub returns-clause-some : goal.returns-clause-some
-returns-clause-some c = grind (arith, common_steps, c.if-is_empty.ensures, has_a_byte c.args.text.now)
+pub returns-clause-first : goal.returns-clause-first
+returns-clause-first c =
+    let text : List ℕ = c.args.text.now in
+    subst (λ line. FirstLine text line c.split_at.result.1.now) (sym c.split_at.ensures.front)
+        (subst (FirstLine text (take c.line_length.result text)) (sym c.split_at.ensures.back)
+            (subst (λ n. FirstLine text (take n text) (drop n text)) (sym c.line_length.ensures) (law text (grind (arith, c.if-is_empty.ensures)))))

@@ -1,8 +1,9 @@
 use Rattle.std.proofs.Common.{◌≡◌, refl, ap, sym, subst, ◌∙◌, ℕ, List, ◌++◌, replicate}
+use Rattle.std.specs.Prelude.{OnErr}
 use Rattle.std.specs.Io.KnownBytes.{Appends, append_known}
 use Rattle.setup.specs.Text.{lines_of}
 use Rattle.session.specs.Listings.{contents, told}
-use Rattle.session.specs.Sessions.{Progress, handled, progress, read_line, line_told, lines_told, after_lines}
+use Rattle.session.specs.Sessions.{Progress, handled, progress, read_line, line_told, lines_told, after_lines, LeftAt}
 use Rattle.session.proofs.Printing.{begun, read_with_room, printed, SomeLeft, one_more, stopped}
 use Rattle.session.proofs.session.Session.print.Goals as goal
 
@@ -16,7 +17,7 @@ loop-line-preserved g c =
     let empty = begun c.new-listing.result (replicate 40 0) c.new-listing.ensures.used c.new-listing.ensures.memory refl in
     let read = read_with_room p (contents c.new-listing.result) c.in-Some.line.now (handled c.handle.result (progress g.B.Bus.byte c.handle.new.self)) c.handle.ensures.value empty.0 in
     let text : c.text.result.now ≡ line_told (read_line p c.in-Some.line.now) =
-    c.text.ensures ∙ ap (λ l. l.written) c.handle.ensures.listing ∙ ap (λ before. before ++ told c.handle.new.self.lines c.handle.result) empty.1 ∙ ap line_told read in (
+    c.text.ensures ∙ ap (λ l. l.written) c.handle.ensures.listing ∙ ap (λ before. before ++ told c.handle.new.self.lines_read c.handle.result) empty.1 ∙ ap line_told read in (
       subst (λ h. Appends out (append_known (g.W.Write.contents c.write_all.new.self) (lines_told h.after more)) (lines_told start all)) (sym read)
           (printed out (g.W.Write.contents c.loop-line.out) (g.W.Write.contents c.write_all.new.self) (line_told (read_line p c.in-Some.line.now)) (lines_told (read_line p c.in-Some.line.now).after more) (lines_told start all)
           (subst (λ lines. Appends out (append_known (g.W.Write.contents c.loop-line.out) (lines_told p lines)) (lines_told start all)) c.in-Some.ensures.line c.loop-line.invariant.0)
@@ -34,5 +35,5 @@ returns-in_err-write_all-clause-stopped g c =
     let more : List (List ℕ) = lines_of c.in-Some.behind.now in
     let empty = begun c.new-listing.result (replicate 40 0) c.new-listing.ensures.used c.new-listing.ensures.memory refl in
     let read = read_with_room p (contents c.new-listing.result) c.in-Some.line.now (handled c.handle.result (progress g.B.Bus.byte c.handle.new.self)) c.handle.ensures.value empty.0 in
-    stopped c.from_residual.result start (progress g.B.Bus.byte c.handle.new.self) all more
-    (subst (λ h. SomeLeft start all h.after more) (sym read) (one_more start p all c.in-Some.line.now more (subst (SomeLeft start all p) c.in-Some.ensures.line c.loop-line.invariant.2)))
+    subst (λ h. OnErr c.from_residual.result (LeftAt start all h.after)) (sym read)
+    (stopped c.from_residual.result start p all c.in-Some.line.now more (subst (SomeLeft start all p) c.in-Some.ensures.line c.loop-line.invariant.2))

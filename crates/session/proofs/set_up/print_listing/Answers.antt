@@ -3,7 +3,7 @@ use Rattle.std.specs.Prelude.{OnOk}
 use Rattle.std.specs.Io.KnownBytes.{Appends}
 use Rattle.setup.specs.Text.{lines_of}
 use Rattle.session.specs.Sessions.{fresh, lines_told}
-use Rattle.session.proofs.whole.print_listing.Goals as goal
+use Rattle.session.proofs.set_up.print_listing.Goals as goal
 
 pub returns : goal.returns
 returns g c =

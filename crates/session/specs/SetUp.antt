@@ -9,6 +9,10 @@ use Rattle.session.specs.Sessions.{fresh, lines_told}
 abbrev pub board : Memory
 board = bank_cells 0x1c000000 (replicate 32768 0)
 
--- no more than 65,536 bytes of the text are read
+-- the listing of a text on that board
 abbrev pub set_up_listing : List ℕ → List ℕ
-set_up_listing text = lines_told (fresh board) (lines_of (take 65536 text))
+set_up_listing text = lines_told (fresh board) (lines_of text)
+
+-- no more than 65,536 bytes are read
+abbrev pub text_read : List ℕ → List ℕ
+text_read bytes = take 65536 bytes

@@ -1,9 +1,9 @@
 // A whole set-up: its lines one after the other, the listing printed and emptied behind each.
-ghost use Rattle.std.specs.Prelude.{◌≡◌, OnOk, OnErr, IfOk, IfSome, take};
+ghost use Rattle.std.specs.Prelude.{◌≡◌, OnOk, OnErr, IfOk, IfSome};
 ghost use Rattle.std.specs.Io.KnownBytes.{Appends};
 ghost use Rattle.setup.specs.Text.{lines_of};
-ghost use Rattle.session.specs.Sessions.{progress, fresh, lines_told, after_lines, SomeHandled};
-ghost use Rattle.session.specs.Whole.{board, set_up_listing};
+ghost use Rattle.session.specs.Sessions.{progress, lines_told, after_lines, LeftAt};
+ghost use Rattle.session.specs.SetUp.{set_up_listing, text_read};
 
 use crate::lines::ROOM;
 use crate::listing::Listing;
@@ -16,7 +16,7 @@ use std::io;
 use std::io::{Read, Write};
 
 // The most that is read of a text.
-const MOST_BYTES: u64 = 65_536;
+pub const MOST_BYTES: usize = 65_536;
 
 const BANK: PhysAddr = PhysAddr(0x1c00_0000);
 
@@ -28,8 +28,8 @@ impl<B: Bus> Session<B> {
         ensures printed { OnOk result (Appends (W.contents out.old) (W.contents out.new) (lines_told (progress B.byte self.old) (lines_of text.now))) }
         ensures after { OnOk result (progress B.byte self.new ≡ after_lines (progress B.byte self.old) (lines_of text.now)) }
 
-        // Where printing failed, the lines up to some line were handled.
-        ensures stopped { OnErr result (SomeHandled (progress B.byte self.old) (lines_of text.now) (progress B.byte self.new)) }
+        // Printing may fail behind any line.
+        ensures stopped { OnErr result (LeftAt (progress B.byte self.old) (lines_of text.now) (progress B.byte self.new)) }
         ensures kept { B.layout self.new.board ≡ B.layout self.old.board }
     {
         let mut rest = text;
@@ -45,27 +45,20 @@ impl<B: Bus> Session<B> {
     }
 }
 
-// The listing of a text, on a board of one bank.
-fn print_listing<W: Write>(text: &[u8], out: &mut W) -> io::Result<()>
-    ensures { OnOk result (Appends (W.contents out.old) (W.contents out.new) (lines_told (fresh board) (lines_of text.now))) }
+// Prints the listing of a text, on a board of one bank.
+pub fn print_listing<W: Write>(text: &[u8], out: &mut W) -> io::Result<()>
+    ensures { OnOk result (Appends (W.contents out.old) (W.contents out.new) (set_up_listing text.now)) }
 {
     let mut memory = [0u8; BANK_BYTES];
     let mut session = Session::new(Bank::new(BANK, &mut memory));
     session.print(text, out)
 }
 
-fn read_text<R: Read + Drop>(alloc: Global, input: R) -> io::Result<Vec<u8>>
-    ensures { IfOk result (λ text. IfSome (R.remaining input) (λ bytes. text.items ≡ take 65536 bytes)) }
+// Reads a text, or as much of it as may be one.
+pub fn read_text<R: Read + Drop>(alloc: Global, input: R) -> io::Result<Vec<u8>>
+    ensures { IfOk result (λ text. IfSome (R.remaining input) (λ bytes. text.items ≡ text_read bytes)) }
 {
     let mut text = Vec::new(alloc);
-    input.take(MOST_BYTES).read_to_end(&mut text)?;
+    input.take(MOST_BYTES as u64).read_to_end(&mut text)?;
     Ok(text)
-}
-
-// Reads a set-up, runs it on a board of one bank and prints its listing.
-pub fn run_set_up<R: Read + Drop, W: Write>(alloc: Global, input: R, out: &mut W) -> io::Result<()>
-    ensures { OnOk result (IfSome (R.remaining input) (λ text. Appends (W.contents out.old) (W.contents out.new) (set_up_listing text))) }
-{
-    let text = read_text(alloc, input)?;
-    print_listing(text.as_slice(), out)
 }

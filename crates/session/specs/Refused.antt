@@ -1,0 +1,69 @@
+-- Why a line is refused, and what it leaves.
+use Rattle.std.specs.Prelude.{◌≡◌, ℕ, ◌<◌, Bool, true, false, List, Ok, Err}
+use Rattle.bus.specs.declared.refusal.Refusal.{Refusal}
+use Rattle.bus.specs.Rules.{WriteRule}
+use Rattle.numerals.specs.Hexadecimal.{hex_value}
+use Rattle.numerals.specs.Decimal.{decimal_value}
+use Rattle.setup.specs.Lines.{Form, write, run, register, line_text, well_formed}
+use Rattle.machine.specs.declared.answers.CallRefusal.TheVariants.{NoRegister, NoControlRegister, NoTlbEntry, RunTooLong}
+use Rattle.session.specs.declared.answer.LineAnswer.TheVariants.{Written, Ran, Register}
+use Rattle.session.specs.declared.answer.LineRefusal.{LineRefusal}
+use Rattle.session.specs.declared.answer.LineRefusal.TheVariants.{NoForm, OutOfPlace, Bus, Call, ListingFull}
+use Rattle.session.specs.declared.session.Stage.{Stage}
+use Rattle.session.specs.declared.session.Stage.TheVariants.{Unreset, Running}
+use Rattle.session.specs.Answers.{LineResult}
+use Rattle.session.specs.Listings.{Contents, is_full}
+use Rattle.session.specs.Sessions.{Progress, core_to_run, counted}
+
+-- the line is this form's
+abbrev pub Is : Form → List ℕ → Type 0
+Is f line = (well_formed f ≡ true) × (line_text f ≡ line)
+
+-- a `w` after the first `g`, or an `r` before it
+abbrev pub out_of_place : Form → Stage → Bool
+out_of_place (write address value) (Unreset u) = false
+out_of_place (write address value) (Running s) = true
+out_of_place (run count) stage = false
+out_of_place (register number) (Unreset u) = true
+out_of_place (register number) (Running s) = false
+
+-- why a line is refused, in the order in which refusals come
+pub data Why (p : Progress) (listing : Contents) (line : List ℕ) : LineRefusal → Type 0 where
+  full : is_full listing ≡ true → Why p listing line ListingFull
+  no_form : is_full listing ≡ false → ((f : Form) → Is f line → ⊥) → Why p listing line NoForm
+  not_here : (f : Form) → is_full listing ≡ false → Is f line → out_of_place f p.stage ≡ true → Why p listing line OutOfPlace
+  by_bus : (address value : List ℕ) (e : Refusal) → is_full listing ≡ false → Is (write address value) line → out_of_place (write address value) p.stage ≡ false
+      → WriteRule p.memory (hex_value address) 4 (hex_value value) (Err e) p.memory → Why p listing line (Bus e)
+  too_long : (count : List ℕ) → is_full listing ≡ false → Is (run count) line → 65536 < decimal_value count → Why p listing line (Call RunTooLong)
+  no_register : (number : List ℕ) → is_full listing ≡ false → Is (register number) line → out_of_place (register number) p.stage ≡ false → 31 < decimal_value number
+      → Why p listing line (Call NoRegister)
+
+-- a refused line leaves core and memory and is counted, but a run that is too long has reset a core that was never reset, and a line
+-- that found the listing full leaves all as it was
+abbrev pub left_by : LineRefusal → Progress → Progress
+left_by NoForm p = counted p
+left_by OutOfPlace p = counted p
+left_by (Bus e) p = counted p
+left_by (Call NoRegister) p = counted p
+left_by (Call NoControlRegister) p = counted p
+left_by (Call NoTlbEntry) p = counted p
+left_by (Call RunTooLong) p = record (counted p) { stage = Running (core_to_run p.stage) }
+left_by ListingFull p = p
+
+pub record Refused (e : LineRefusal) (p : Progress) (listing : Contents) (line : List ℕ) (q : Progress) : Type 0 where
+  pub reason : Why p listing line e
+  pub leaves : q ≡ left_by e p
+
+-- an answer that comes without a call of the bus
+abbrev pub asks_no_bus : LineResult → Bool
+asks_no_bus (Ok Written) = false
+asks_no_bus (Ok (Ran report pc)) = false
+asks_no_bus (Ok (Register number value)) = true
+asks_no_bus (Err NoForm) = true
+asks_no_bus (Err OutOfPlace) = true
+asks_no_bus (Err (Bus e)) = false
+asks_no_bus (Err (Call NoRegister)) = true
+asks_no_bus (Err (Call NoControlRegister)) = true
+asks_no_bus (Err (Call NoTlbEntry)) = true
+asks_no_bus (Err (Call RunTooLong)) = false
+asks_no_bus (Err ListingFull) = true
