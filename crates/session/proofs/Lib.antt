@@ -1,3 +1,4 @@
 pub mod Printing
 pub mod Refusing
 pub mod Told
+pub mod Worked

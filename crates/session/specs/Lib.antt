@@ -3,3 +3,4 @@ pub mod Listings
 pub mod Refused
 pub mod Sessions
 pub mod SetUp
+pub mod Worked

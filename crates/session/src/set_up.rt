@@ -4,6 +4,7 @@ ghost use Rattle.std.specs.Io.KnownBytes.{Appends};
 ghost use Rattle.setup.specs.Text.{lines_of};
 ghost use Rattle.session.specs.Sessions.{progress, lines_told, after_lines, LeftAt};
 ghost use Rattle.session.specs.SetUp.{set_up_listing, text_read};
+ghost use Rattle.session.specs.Worked.{WorkedSetUp};
 
 use crate::lines::ROOM;
 use crate::listing::Listing;
@@ -47,7 +48,10 @@ impl<B: Bus> Session<B> {
 
 // Prints the listing of a text, on a board of one bank.
 pub fn print_listing<W: Write>(text: &[u8], out: &mut W) -> io::Result<()>
-    ensures { OnOk result (Appends (W.contents out.old) (W.contents out.new) (set_up_listing text.now)) }
+    ensures printed { OnOk result (Appends (W.contents out.old) (W.contents out.new) (set_up_listing text.now)) }
+
+    // A theorem over definitions is checked only where a contract cites it, so this call's contract cites this one.
+    ensures worked { WorkedSetUp }
 {
     let mut memory = [0u8; BANK_BYTES];
     let mut session = Session::new(Bank::new(BANK, &mut memory));
