@@ -1,20 +1,14 @@
 -- The number that an answer goes by.
-use Rattle.std.specs.Prelude.{ℕ, Some, None, Option, Ok, Err}
-use Rattle.machine.specs.declared.answers.StepRefusal.{StepRefusal}
-use Rattle.machine.specs.Answers.{event_number, step_refusal_number, call_refusal_number}
+use Rattle.std.specs.Prelude.{ℕ, Ok, Err}
+use Rattle.machine.specs.Answers.{event_number, step_refusal_number, report_number, call_refusal_number}
 use Rattle.driver.specs.declared.call.Answer.{Answer}
 use Rattle.driver.specs.declared.call.Answer.TheVariants.{Reset, Step, Run, Pc, Register, ControlRegister, TlbEntry}
-
--- of a run that a refused step cut short, that of its refusal
-abbrev pub run_number : Option StepRefusal → ℕ
-run_number None = 0
-run_number (Some e) = step_refusal_number e
 
 abbrev pub answer_number : Answer → ℕ
 answer_number Reset = 0
 answer_number (Step (Ok e)) = event_number e
 answer_number (Step (Err e)) = step_refusal_number e
-answer_number (Run (Ok report)) = run_number report.refusal
+answer_number (Run (Ok report)) = report_number report
 answer_number (Run (Err e)) = call_refusal_number e
 answer_number (Pc at) = 0
 answer_number (Register (Ok value)) = 0

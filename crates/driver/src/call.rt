@@ -1,6 +1,6 @@
 // The driver's calls and their answers, as values.
 ghost use Rattle.std.specs.Prelude.{◌≡◌};
-ghost use Rattle.driver.specs.Answers.{run_number, answer_number};
+ghost use Rattle.driver.specs.Answers.{answer_number};
 
 use machine::{CallRefusal, Event, RunReport, StepRefusal};
 use pages::VirtAddr;
@@ -30,15 +30,6 @@ pub enum Answer {
     TlbEntry(Result<Entry, CallRefusal>),
 }
 
-fn run_number(report: &RunReport) -> u32
-    ensures { result ≡ run_number report.now.refusal }
-{
-    match report.refusal {
-        Some(refusal) => refusal.number(),
-        None => 0,
-    }
-}
-
 impl Answer {
     // 0 where the call was done, 1 or 2 for a step that waited or took an exception, or the number of the refusal.
     pub fn number(&self) -> u32
@@ -47,7 +38,7 @@ impl Answer {
         match self {
             Answer::Step(Ok(event)) => event.number(),
             Answer::Step(Err(refusal)) => refusal.number(),
-            Answer::Run(Ok(report)) => run_number(report),
+            Answer::Run(Ok(report)) => report.number(),
             Answer::Run(Err(refusal))
             | Answer::Register(Err(refusal))
             | Answer::ControlRegister(Err(refusal))

@@ -6,6 +6,7 @@ use Rattle.csr.specs.Exceptions.{ecode, esubcode}
 use Rattle.machine.specs.declared.answers.Event.{Event}
 use Rattle.machine.specs.declared.answers.Event.TheVariants.{Done, Waiting, Exception}
 use Rattle.machine.specs.declared.answers.StepRefusal.{StepRefusal}
+use Rattle.machine.specs.declared.answers.RunReport.{RunReport}
 use Rattle.machine.specs.declared.answers.CallRefusal.{CallRefusal}
 use Rattle.machine.specs.declared.answers.CallRefusal.TheVariants.{NoRegister, NoControlRegister, NoTlbEntry, RunTooLong}
 
@@ -26,6 +27,21 @@ step_refusal_number e = refusal_number e.by_bus
 
 abbrev pub step_refusal_address : StepRefusal → Option PhysAddr
 step_refusal_address e = refusal_address e.by_bus
+
+abbrev pub number_of_refused : Option StepRefusal → ℕ
+number_of_refused None = 0
+number_of_refused (Some e) = step_refusal_number e
+
+abbrev pub address_of_refused : Option StepRefusal → Option PhysAddr
+address_of_refused None = None
+address_of_refused (Some e) = step_refusal_address e
+
+-- of the refused step that cut a run short, if one did, or 0
+abbrev pub report_number : RunReport → ℕ
+report_number report = number_of_refused report.refusal
+
+abbrev pub report_address : RunReport → Option PhysAddr
+report_address report = address_of_refused report.refusal
 
 abbrev pub call_refusal_number : CallRefusal → ℕ
 call_refusal_number NoRegister = 3

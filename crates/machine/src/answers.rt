@@ -1,6 +1,6 @@
 // What calls of the core answer.
 ghost use Rattle.std.specs.Prelude.{◌≡◌};
-ghost use Rattle.machine.specs.Answers.{event_number, event_codes, step_refusal_number, step_refusal_address, call_refusal_number};
+ghost use Rattle.machine.specs.Answers.{event_number, event_codes, step_refusal_number, step_refusal_address, report_number, report_address, call_refusal_number};
 
 use bus::{PhysAddr, Refusal};
 use csr::Cause;
@@ -72,6 +72,25 @@ impl StepRefusal {
         ensures { result ≡ step_refusal_address self }
     {
         self.by_bus.address()
+    }
+}
+
+impl RunReport {
+    // 0, or the number of the refused step that cut the run short.
+    pub fn number(self) -> u32
+        ensures { result ≡ report_number self }
+    {
+        match self.refusal {
+            Some(refusal) => refusal.number(),
+            None => 0,
+        }
+    }
+
+    // The physical address of that step's access.
+    pub fn address(self) -> Option<PhysAddr>
+        ensures { result ≡ report_address self }
+    {
+        self.refusal?.address()
     }
 }
 

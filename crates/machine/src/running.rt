@@ -1,5 +1,5 @@
 // Steps and runs of a running core.
-ghost use Rattle.std.specs.Prelude.{◌≡◌, ℕ, ◌+◌, ◌%◌, ◌^◌, true, IfOk, IfErr};
+ghost use Rattle.std.specs.Prelude.{◌≡◌, ℕ, ◌+◌, ◌%◌, ◌^◌, true, IfOk, IfErr, OnErr};
 ghost use Rattle.bus.specs.Memory.{Memory};
 ghost use Rattle.control.specs.Exceptions.{interrupted};
 ghost use Rattle.machine.specs.declared.state.State.{State as TheState};
@@ -49,6 +49,9 @@ impl RunningCore {
     ) -> Result<RunReport, CallRefusal>
         ensures value { outcome result self.new (B.byte bus.new) ≡ run self.old count levels (B.byte bus.old) }
         ensures kept { B.layout bus.new ≡ B.layout bus.old }
+
+        // A run that is refused leaves the bus alone, with all that it keeps for itself.
+        ensures untouched { OnErr result (bus.new ≡ bus.old) }
 
         // The counter has risen by the accepted steps, which are those that are reported.
         ensures counter { IfOk result (λ report. self.new.registers.timer.counter % 2 ^ 64 ≡ (self.old.registers.timer.counter + report.steps) % 2 ^ 64) }

@@ -2,8 +2,7 @@
 use Rattle.std.specs.Prelude.{ℕ, Some, None, Option, Result}
 use Rattle.bus.specs.declared.address.PhysAddr.{PhysAddr}
 use Rattle.bus.specs.Refusals.{refusal_number, refusal_address}
-use Rattle.machine.specs.declared.answers.StepRefusal.{StepRefusal}
-use Rattle.machine.specs.Answers.{step_refusal_number, step_refusal_address, call_refusal_number}
+use Rattle.machine.specs.Answers.{report_number, report_address, call_refusal_number}
 use Rattle.session.specs.declared.answer.LineAnswer.{LineAnswer}
 use Rattle.session.specs.declared.answer.LineAnswer.TheVariants.{Written, Ran, Register}
 use Rattle.session.specs.declared.answer.LineRefusal.{LineRefusal}
@@ -12,24 +11,14 @@ use Rattle.session.specs.declared.answer.LineRefusal.TheVariants.{NoForm, OutOfP
 abbrev pub LineResult : Type 0
 LineResult = Result LineAnswer LineRefusal
 
--- of a run that was cut short, or 0
-abbrev pub run_number : Option StepRefusal → ℕ
-run_number None = 0
-run_number (Some e) = step_refusal_number e
-
 abbrev pub line_answer_number : LineAnswer → ℕ
 line_answer_number Written = 0
-line_answer_number (Ran report pc) = run_number report.refusal
+line_answer_number (Ran report pc) = report_number report
 line_answer_number (Register number value) = 0
-
--- of the refused step that cut a run short
-abbrev pub run_address : Option StepRefusal → Option PhysAddr
-run_address None = None
-run_address (Some e) = step_refusal_address e
 
 abbrev pub line_answer_address : LineAnswer → Option PhysAddr
 line_answer_address Written = None
-line_answer_address (Ran report pc) = run_address report.refusal
+line_answer_address (Ran report pc) = report_address report
 line_answer_address (Register number value) = None
 
 abbrev pub line_refusal_number : LineRefusal → ℕ

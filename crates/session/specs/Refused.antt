@@ -65,5 +65,5 @@ asks_no_bus (Err (Bus e)) = false
 asks_no_bus (Err (Call NoRegister)) = true
 asks_no_bus (Err (Call NoControlRegister)) = true
 asks_no_bus (Err (Call NoTlbEntry)) = true
-asks_no_bus (Err (Call RunTooLong)) = false
+asks_no_bus (Err (Call RunTooLong)) = true
 asks_no_bus (Err ListingFull) = true

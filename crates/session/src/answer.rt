@@ -1,6 +1,6 @@
 // What the lines of a set-up answer.
 ghost use Rattle.std.specs.Prelude.{◌≡◌};
-ghost use Rattle.session.specs.Answers.{run_number, line_answer_number, line_answer_address, line_refusal_number, line_refusal_address};
+ghost use Rattle.session.specs.Answers.{line_answer_number, line_answer_address, line_refusal_number, line_refusal_address};
 
 use bus::{PhysAddr, Refusal};
 use machine::{CallRefusal, RunReport};
@@ -37,10 +37,7 @@ impl LineAnswer {
         ensures { result ≡ line_answer_number self.now }
     {
         match self {
-            LineAnswer::Ran { report, .. } => match report.refusal {
-                Some(refusal) => refusal.number(),
-                None => 0,
-            },
+            LineAnswer::Ran { report, .. } => report.number(),
             LineAnswer::Written | LineAnswer::Register { .. } => 0,
         }
     }
@@ -50,7 +47,7 @@ impl LineAnswer {
         ensures { result ≡ line_answer_address self.now }
     {
         match self {
-            LineAnswer::Ran { report, .. } => report.refusal?.address(),
+            LineAnswer::Ran { report, .. } => report.address(),
             LineAnswer::Written | LineAnswer::Register { .. } => None,
         }
     }

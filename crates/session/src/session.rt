@@ -11,7 +11,7 @@ use machine::{RunningCore, UnresetCore};
 use setup::SetupLine;
 
 #[derive(Drop)]
-pub enum Stage {
+enum Stage {
     Unreset(UnresetCore),
     Running(RunningCore),
 }
