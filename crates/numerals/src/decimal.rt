@@ -28,7 +28,7 @@ fn are_digits(text: &[u8]) -> bool
 
 impl<'a> DecimalField<'a> {
     pub fn new(text: &'a [u8]) -> Option<DecimalField<'a>>
-        ensures { MatchOption result (is_decimal_field text.now ≡ false) (λ field. (is_decimal_field text.now ≡ true) × (field.digits.now ≡ text.now)) }
+        ensures { MatchOption result (is_decimal_field text.now ≡ false) (λ field. field.digits.now ≡ text.now) }
     {
         if text.len() >= 1 && text.len() <= MOST_DIGITS && are_digits(text) {
             Some(DecimalField { digits: text })

@@ -1,5 +1,5 @@
 // Words in eight hexadecimal digits, those above 9 in upper case.
-ghost use Rattle.std.specs.Prelude.{◌≡◌, ◌<◌, true, IfSome, MatchOption, false};
+ghost use Rattle.std.specs.Prelude.{◌≡◌, ◌<◌, true, MatchOption, false};
 ghost use Rattle.numerals.specs.Hexadecimal.{is_hex_digit, hex_digit_value, all_hex_digits, is_hex_field, hex_value, hex_digit, hex_text};
 
 // A part of a text that is a word in hexadecimal digits.
@@ -40,7 +40,7 @@ fn digit_value(byte: u8) -> u32
 
 impl<'a> HexField<'a> {
     pub fn new(text: &'a [u8]) -> Option<HexField<'a>>
-        ensures { MatchOption result (is_hex_field text.now ≡ false) (λ field. (is_hex_field text.now ≡ true) × (field.digits.now ≡ text.now)) }
+        ensures { MatchOption result (is_hex_field text.now ≡ false) (λ field. field.digits.now ≡ text.now) }
     {
         if text.len() == 8 && are_hex_digits(text) {
             Some(HexField { digits: text })

@@ -8,7 +8,7 @@ use Rattle.std.specs.Io.KnownBytes.{Appends, append_known}
 use Rattle.session.specs.declared.answer.LineRefusal.TheVariants.{ListingFull}
 use Rattle.session.specs.declared.listing.Listing.{Listing}
 use Rattle.session.specs.Listings.{Contents, contents}
-use Rattle.session.specs.SetUp.{text_read}
+use Rattle.session.specs.WholeText.{text_read}
 use Rattle.session.specs.Sessions.{Progress, Handled, handled, read_line, handle, after_lines, LeftAt}
 
 -- a listing that begins empty in memory of 40 bytes

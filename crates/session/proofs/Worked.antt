@@ -22,7 +22,7 @@ use Rattle.setup.specs.Text.{lines_of}
 use Rattle.session.specs.declared.session.Stage.TheVariants.{Unreset}
 use Rattle.session.specs.Listings.{comma_line}
 use Rattle.session.specs.Sessions.{Handled, fresh, ran, line_told, lines_told, after_lines}
-use Rattle.session.specs.SetUp.{board}
+use Rattle.session.specs.WholeText.{board}
 use Rattle.session.specs.Worked.{addition_text, addition_listing_text, register_left, WorkedSetUp}
 
 abbrev begun : State → State

@@ -1,5 +1,5 @@
 -- The numbers and the values of what the lines of a set-up answer.
-use Rattle.std.specs.Prelude.{ℕ, Some, None, Option, Result}
+use Rattle.std.specs.Prelude.{ℕ, None, Option, Result}
 use Rattle.bus.specs.declared.address.PhysAddr.{PhysAddr}
 use Rattle.bus.specs.Refusals.{refusal_number, refusal_address}
 use Rattle.machine.specs.Answers.{report_number, report_address, call_refusal_number}
@@ -29,8 +29,5 @@ line_refusal_number (Call e) = call_refusal_number e
 line_refusal_number ListingFull = 12
 
 abbrev pub line_refusal_address : LineRefusal → Option PhysAddr
-line_refusal_address NoForm = None
-line_refusal_address OutOfPlace = None
 line_refusal_address (Bus e) = refusal_address e
-line_refusal_address (Call e) = None
-line_refusal_address ListingFull = None
+line_refusal_address _ = None

@@ -2,5 +2,5 @@ pub mod Answers
 pub mod Listings
 pub mod Refused
 pub mod Sessions
-pub mod SetUp
+pub mod WholeText
 pub mod Worked

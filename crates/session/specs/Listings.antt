@@ -6,13 +6,13 @@ use Rattle.machine.specs.declared.answers.RunReport.{RunReport}
 use Rattle.machine.specs.declared.answers.StepRefusal.{StepRefusal}
 use Rattle.machine.specs.Answers.{step_refusal_number}
 use Rattle.session.specs.declared.answer.LineAnswer.TheVariants.{Written, Ran, Register}
-use Rattle.session.specs.declared.answer.LineRefusal.TheVariants.{NoForm, OutOfPlace, Bus, Call, ListingFull}
+use Rattle.session.specs.declared.answer.LineRefusal.TheVariants.{ListingFull}
 use Rattle.session.specs.declared.listing.Listing.{Listing}
 use Rattle.session.specs.Answers.{LineResult, line_refusal_number}
 
--- a word and two fields, parted by commas
+-- a name and two fields, parted by commas
 abbrev pub comma_line : List ℕ → List ℕ → List ℕ → List ℕ
-comma_line word first second = word ++ (codes "," ++ (first ++ (codes "," ++ (second ++ (10 ∷ [])))))
+comma_line name first second = name ++ (codes "," ++ (first ++ (codes "," ++ (second ++ (10 ∷ [])))))
 
 abbrev pub run_line : ℕ → ℕ → List ℕ
 run_line steps pc = comma_line (codes "run") (decimal steps) (hex_text pc)
@@ -36,11 +36,8 @@ abbrev pub told : ℕ → LineResult → List ℕ
 told line (Ok Written) = []
 told line (Ok (Ran report pc)) = report_lines line report pc
 told line (Ok (Register number value)) = register_line number value
-told line (Err NoForm) = refusal_line line (line_refusal_number NoForm)
-told line (Err OutOfPlace) = refusal_line line (line_refusal_number OutOfPlace)
-told line (Err (Bus e)) = refusal_line line (line_refusal_number (Bus e))
-told line (Err (Call e)) = refusal_line line (line_refusal_number (Call e))
 told line (Err ListingFull) = []
+told line (Err e) = refusal_line line (line_refusal_number e)
 
 -- what a listing's memory holds: what is written, and behind it the bytes that are free
 pub record Contents : Type 0 where

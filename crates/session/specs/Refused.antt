@@ -5,8 +5,8 @@ use Rattle.bus.specs.Rules.{WriteRule}
 use Rattle.numerals.specs.Hexadecimal.{hex_value}
 use Rattle.numerals.specs.Decimal.{decimal_value}
 use Rattle.setup.specs.Lines.{Form, write, run, register, line_text, well_formed}
-use Rattle.machine.specs.declared.answers.CallRefusal.TheVariants.{NoRegister, NoControlRegister, NoTlbEntry, RunTooLong}
-use Rattle.session.specs.declared.answer.LineAnswer.TheVariants.{Written, Ran, Register}
+use Rattle.machine.specs.declared.answers.CallRefusal.TheVariants.{NoRegister, RunTooLong}
+use Rattle.session.specs.declared.answer.LineAnswer.TheVariants.{Register}
 use Rattle.session.specs.declared.answer.LineRefusal.{LineRefusal}
 use Rattle.session.specs.declared.answer.LineRefusal.TheVariants.{NoForm, OutOfPlace, Bus, Call, ListingFull}
 use Rattle.session.specs.declared.session.Stage.{Stage}
@@ -21,8 +21,8 @@ Is f line = (well_formed f ≡ true) × (line_text f ≡ line)
 
 -- a `w` after the first `g`, or an `r` before it
 abbrev pub out_of_place : Form → Stage → Bool
-out_of_place (write address value) (Unreset u) = false
-out_of_place (write address value) (Running s) = true
+out_of_place (write address word) (Unreset u) = false
+out_of_place (write address word) (Running s) = true
 out_of_place (run count) stage = false
 out_of_place (register number) (Unreset u) = true
 out_of_place (register number) (Running s) = false
@@ -32,23 +32,18 @@ pub data Why (p : Progress) (listing : Contents) (line : List ℕ) : LineRefusal
   full : is_full listing ≡ true → Why p listing line ListingFull
   no_form : is_full listing ≡ false → ((f : Form) → Is f line → ⊥) → Why p listing line NoForm
   not_here : (f : Form) → is_full listing ≡ false → Is f line → out_of_place f p.stage ≡ true → Why p listing line OutOfPlace
-  by_bus : (address value : List ℕ) (e : Refusal) → is_full listing ≡ false → Is (write address value) line → out_of_place (write address value) p.stage ≡ false
-      → WriteRule p.memory (hex_value address) 4 (hex_value value) (Err e) p.memory → Why p listing line (Bus e)
-  too_long : (count : List ℕ) → is_full listing ≡ false → Is (run count) line → 65536 < decimal_value count → Why p listing line (Call RunTooLong)
+  by_bus : (address word : List ℕ) (e : Refusal) → is_full listing ≡ false → Is (write address word) line → out_of_place (write address word) p.stage ≡ false
+      → WriteRule p.memory (hex_value address) 4 (hex_value word) (Err e) p.memory → Why p listing line (Bus e)
   no_register : (number : List ℕ) → is_full listing ≡ false → Is (register number) line → out_of_place (register number) p.stage ≡ false → 31 < decimal_value number
       → Why p listing line (Call NoRegister)
+  too_long : (count : List ℕ) → is_full listing ≡ false → Is (run count) line → 65536 < decimal_value count → Why p listing line (Call RunTooLong)
 
 -- a refused line leaves core and memory and is counted, but a run that is too long has reset a core that was never reset, and a line
 -- that found the listing full leaves all as it was
 abbrev pub left_by : LineRefusal → Progress → Progress
-left_by NoForm p = counted p
-left_by OutOfPlace p = counted p
-left_by (Bus e) p = counted p
-left_by (Call NoRegister) p = counted p
-left_by (Call NoControlRegister) p = counted p
-left_by (Call NoTlbEntry) p = counted p
-left_by (Call RunTooLong) p = record (counted p) { stage = Running (core_to_run p.stage) }
 left_by ListingFull p = p
+left_by (Call RunTooLong) p = record (counted p) { stage = Running (core_to_run p.stage) }
+left_by _ p = counted p
 
 pub record Refused (e : LineRefusal) (p : Progress) (listing : Contents) (line : List ℕ) (q : Progress) : Type 0 where
   pub reason : Why p listing line e
@@ -56,14 +51,7 @@ pub record Refused (e : LineRefusal) (p : Progress) (listing : Contents) (line :
 
 -- an answer that comes without a call of the bus
 abbrev pub asks_no_bus : LineResult → Bool
-asks_no_bus (Ok Written) = false
-asks_no_bus (Ok (Ran report pc)) = false
 asks_no_bus (Ok (Register number value)) = true
-asks_no_bus (Err NoForm) = true
-asks_no_bus (Err OutOfPlace) = true
+asks_no_bus (Ok _) = false
 asks_no_bus (Err (Bus e)) = false
-asks_no_bus (Err (Call NoRegister)) = true
-asks_no_bus (Err (Call NoControlRegister)) = true
-asks_no_bus (Err (Call NoTlbEntry)) = true
-asks_no_bus (Err (Call RunTooLong)) = true
-asks_no_bus (Err ListingFull) = true
+asks_no_bus (Err _) = true

@@ -85,7 +85,7 @@ read_register p number = handled (register_by_stage p.stage number) p
 
 abbrev pub perform_form : Progress → Option Form → Handled
 perform_form p None = handled (Err NoForm) p
-perform_form p (Some (write address value)) = write_word p (hex_value address) (hex_value value)
+perform_form p (Some (write address word)) = write_word p (hex_value address) (hex_value word)
 perform_form p (Some (run count)) = run_core p (decimal_value count)
 perform_form p (Some (register number)) = read_register p (decimal_value number)
 

@@ -4,7 +4,7 @@ use Rattle.actions.specs.Registers.{gr}
 use Rattle.isa.specs.Fields.{reg_of}
 use Rattle.setup.specs.Text.{lines_of}
 use Rattle.session.specs.Sessions.{Progress, fresh, after_lines, core_to_run}
-use Rattle.session.specs.SetUp.{board, set_up_listing}
+use Rattle.session.specs.WholeText.{board, set_up_listing}
 
 abbrev pub addition_text : List ℕ
 addition_text = codes "w,1C000000,02BFFC04\nw,1C000004,00101085\nw,1C000008,50000000\ng,3\nr,5\n"

@@ -2,14 +2,14 @@
 #![tactic(auto)]
 
 pub mod answer;
-mod lines;
 pub mod listing;
+mod listing_text;
 pub mod session;
-pub mod set_up;
 #[cfg(test)]
 mod tests;
+pub mod whole_text;
 
 pub use answer::{LineAnswer, LineRefusal};
 pub use listing::Listing;
 pub use session::Session;
-pub use set_up::{MOST_BYTES, print_listing, read_text};
+pub use whole_text::{MOST_BYTES, print_listing, read_text};

@@ -27,7 +27,7 @@ pub struct Session<B> {
 impl<B: Bus> Session<B> {
     pub fn new(board: B) -> Session<B>
         ensures progress { progress B.byte result ≡ fresh (B.byte board) }
-        ensures kept { B.layout result.board ≡ B.layout board }
+        ensures board { result.board ≡ board }
     {
         Session {
             board,
@@ -76,8 +76,8 @@ impl<B: Bus> Session<B> {
     {
         match SetupLine::read(line) {
             None => Err(LineRefusal::NoForm),
-            Some(SetupLine::Write { address, data }) => {
-                self.write(PhysAddr(address.value()), data.value())
+            Some(SetupLine::Write { address, word }) => {
+                self.write(PhysAddr(address.value()), word.value())
             }
             Some(SetupLine::Run { count }) => self.run(count.value()),
             Some(SetupLine::Register { number }) => self.register(number.value()),

@@ -12,7 +12,7 @@ pub data Form : Type 0 where
   register : List ℕ → Form
 
 abbrev pub form : SetupLine → Form
-form (Write address value) = write address.digits.now value.digits.now
+form (Write address word) = write address.digits.now word.digits.now
 form (Run count) = run count.digits.now
 form (Register number) = register number.digits.now
 
@@ -25,12 +25,12 @@ line_feed = 10 ∷ []
 
 -- how a line of each form is written
 abbrev pub line_text : Form → List ℕ
-line_text (write address value) = codes "w," ++ (address ++ (codes "," ++ (value ++ line_feed)))
+line_text (write address word) = codes "w," ++ (address ++ (codes "," ++ (word ++ line_feed)))
 line_text (run count) = codes "g," ++ (count ++ line_feed)
 line_text (register number) = codes "r," ++ (number ++ line_feed)
 
 abbrev pub well_formed : Form → Bool
-well_formed (write address value) = is_hex_field address && is_hex_field value
+well_formed (write address word) = is_hex_field address && is_hex_field word
 well_formed (run count) = is_decimal_field count
 well_formed (register number) = is_decimal_field number
 

@@ -11,7 +11,7 @@ abbrev pub lines_of : List ℕ → List (List ℕ)
 lines_of [] = []
 lines_of (b ∷ bs) = cond (b == 10) ((b ∷ []) ∷ lines_of bs) (before_first b (lines_of bs))
 
--- up to and with the first LF
+-- up to and with the first LF; only the contract of an inner function cites it
 abbrev pub line_length : List ℕ → ℕ
 line_length [] = 0
 line_length (b ∷ bs) = cond (b == 10) 1 (suc (line_length bs))

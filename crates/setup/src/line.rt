@@ -9,7 +9,7 @@ use numerals::{DecimalField, HexField};
 pub enum SetupLine<'a> {
     Write {
         address: HexField<'a>,
-        data: HexField<'a>,
+        word: HexField<'a>,
     },
     Run {
         count: DecimalField<'a>,
@@ -19,7 +19,7 @@ pub enum SetupLine<'a> {
     },
 }
 
-// An address, a comma and data.
+// An address, a comma and a word.
 fn read_write(fields: &[u8]) -> Option<SetupLine<'_>>
     ensures { form_in result ≡ write_in fields.now }
 {
@@ -28,7 +28,7 @@ fn read_write(fields: &[u8]) -> Option<SetupLine<'_>>
     }
     Some(SetupLine::Write {
         address: HexField::new(&fields[..8])?,
-        data: HexField::new(&fields[9..])?,
+        word: HexField::new(&fields[9..])?,
     })
 }
 

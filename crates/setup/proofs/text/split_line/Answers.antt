@@ -18,5 +18,5 @@ pub returns-clause-first : goal.returns-clause-first
 returns-clause-first c =
     let text : List ℕ = c.args.text.now in
     subst (λ line. FirstLine text line c.split_at.result.1.now) (sym c.split_at.ensures.front)
-        (subst (FirstLine text (take c.line_length.result text)) (sym c.split_at.ensures.back)
-            (subst (λ n. FirstLine text (take n text) (drop n text)) (sym c.line_length.ensures) (law text (grind (arith, c.if-is_empty.ensures)))))
+    (subst (FirstLine text (take c.line_length.result text)) (sym c.split_at.ensures.back)
+    (subst (λ n. FirstLine text (take n text) (drop n text)) (sym c.line_length.ensures) (law text (grind (arith, c.if-is_empty.ensures)))))

@@ -7,8 +7,8 @@ pub push-requires-3 : goal.push-requires-3
 push-requires-3 c = omega (
   arith,
   c.requires,
-  line_size c.args.word.now c.args.first.now c.args.second.now,
-  room (contents c.args.self.now) (contents c.push.new.self) c.args.word.now c.push.ensures.contents,
+  line_size c.args.name.now c.args.first.now c.args.second.now,
+  room (contents c.args.self.now) (contents c.push.new.self) c.args.name.now c.push.ensures.contents,
   room (contents c.push.new.self) (contents c.push-2.new.self) (codes ",") c.push-2.ensures.contents,
 )
 
@@ -16,8 +16,8 @@ pub push-requires-4 : goal.push-requires-4
 push-requires-4 c = omega (
   arith,
   c.requires,
-  line_size c.args.word.now c.args.first.now c.args.second.now,
-  room (contents c.args.self.now) (contents c.push.new.self) c.args.word.now c.push.ensures.contents,
+  line_size c.args.name.now c.args.first.now c.args.second.now,
+  room (contents c.args.self.now) (contents c.push.new.self) c.args.name.now c.push.ensures.contents,
   room (contents c.push.new.self) (contents c.push-2.new.self) (codes ",") c.push-2.ensures.contents,
   room (contents c.push-2.new.self) (contents c.push-3.new.self) c.args.first.now c.push-3.ensures.contents,
 )
@@ -26,8 +26,8 @@ pub push-requires-5 : goal.push-requires-5
 push-requires-5 c = omega (
   arith,
   c.requires,
-  line_size c.args.word.now c.args.first.now c.args.second.now,
-  room (contents c.args.self.now) (contents c.push.new.self) c.args.word.now c.push.ensures.contents,
+  line_size c.args.name.now c.args.first.now c.args.second.now,
+  room (contents c.args.self.now) (contents c.push.new.self) c.args.name.now c.push.ensures.contents,
   room (contents c.push.new.self) (contents c.push-2.new.self) (codes ",") c.push-2.ensures.contents,
   room (contents c.push-2.new.self) (contents c.push-3.new.self) c.args.first.now c.push-3.ensures.contents,
   room (contents c.push-3.new.self) (contents c.push-4.new.self) (codes ",") c.push-4.ensures.contents,
@@ -37,8 +37,8 @@ pub push-requires-6 : goal.push-requires-6
 push-requires-6 c = omega (
   arith,
   c.requires,
-  line_size c.args.word.now c.args.first.now c.args.second.now,
-  room (contents c.args.self.now) (contents c.push.new.self) c.args.word.now c.push.ensures.contents,
+  line_size c.args.name.now c.args.first.now c.args.second.now,
+  room (contents c.args.self.now) (contents c.push.new.self) c.args.name.now c.push.ensures.contents,
   room (contents c.push.new.self) (contents c.push-2.new.self) (codes ",") c.push-2.ensures.contents,
   room (contents c.push-2.new.self) (contents c.push-3.new.self) c.args.first.now c.push-3.ensures.contents,
   room (contents c.push-3.new.self) (contents c.push-4.new.self) (codes ",") c.push-4.ensures.contents,
@@ -48,5 +48,5 @@ push-requires-6 c = omega (
 pub returns-clause-contents : goal.returns-clause-contents
 returns-clause-contents c =
     line_told (contents c.args.self.now) (contents c.push.new.self) (contents c.push-2.new.self) (contents c.push-3.new.self) (contents c.push-4.new.self) (contents c.push-5.new.self) (contents c.push-6.new.self)
-    c.args.word.now c.args.first.now c.args.second.now
+    c.args.name.now c.args.first.now c.args.second.now
     c.push.ensures.contents c.push-2.ensures.contents c.push-3.ensures.contents c.push-4.ensures.contents c.push-5.ensures.contents c.push-6.ensures.contents

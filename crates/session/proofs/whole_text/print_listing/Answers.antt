@@ -4,7 +4,7 @@ use Rattle.std.specs.Io.KnownBytes.{Appends}
 use Rattle.setup.specs.Text.{lines_of}
 use Rattle.session.specs.Sessions.{fresh, lines_told}
 use Rattle.session.proofs.Worked.{worked_set_up}
-use Rattle.session.proofs.set_up.print_listing.Goals as goal
+use Rattle.session.proofs.whole_text.print_listing.Goals as goal
 
 pub returns-clause-printed : goal.returns-clause-printed
 returns-clause-printed g c =

@@ -3,11 +3,11 @@ ghost use Rattle.std.specs.Prelude.{◌≡◌, OnOk, OnErr, IfOk, IfSome};
 ghost use Rattle.std.specs.Io.KnownBytes.{Appends};
 ghost use Rattle.setup.specs.Text.{lines_of};
 ghost use Rattle.session.specs.Sessions.{progress, lines_told, after_lines, LeftAt};
-ghost use Rattle.session.specs.SetUp.{set_up_listing, text_read};
+ghost use Rattle.session.specs.WholeText.{set_up_listing, text_read};
 ghost use Rattle.session.specs.Worked.{WorkedSetUp};
 
-use crate::lines::ROOM;
 use crate::listing::Listing;
+use crate::listing_text::ROOM;
 use crate::session::Session;
 use bus::{Bus, PhysAddr};
 use parts::Bank;

@@ -5,8 +5,7 @@ ghost use Rattle.session.specs.Listings.{contents, with_text, is_full, comma_lin
 use crate::answer::{LineAnswer, LineRefusal};
 use crate::listing::Listing;
 use machine::RunReport;
-use numerals::decimal::Buffer;
-use numerals::{decimal_digits, hex_digits};
+use numerals::{Buffer, decimal_digits, hex_digits};
 use pages::VirtAddr;
 
 // A line of the set-up is read only if as many bytes are free.
@@ -37,13 +36,13 @@ impl Listing<'_> {
         self.used = end;
     }
 
-    // A word and two fields, parted by commas.
-    fn push_line(&mut self, word: &[u8], first: &[u8], second: &[u8])
-        requires { length (comma_line word.now first.now second.now) ≤ length (contents self.old).free }
-        ensures contents { contents self.new ≡ with_text (contents self.old) (comma_line word.now first.now second.now) }
+    // A name and two fields, parted by commas.
+    fn push_line(&mut self, name: &[u8], first: &[u8], second: &[u8])
+        requires { length (comma_line name.now first.now second.now) ≤ length (contents self.old).free }
+        ensures contents { contents self.new ≡ with_text (contents self.old) (comma_line name.now first.now second.now) }
         ensures lender { self.new.memory.ghost_name ≡ self.old.memory.ghost_name }
     {
-        self.push(word);
+        self.push(name);
         self.push(b",");
         self.push(first);
         self.push(b",");

@@ -1,8 +1,8 @@
 use Rattle.std.proofs.Common.{◌≡◌, subst}
 use Rattle.std.specs.Prelude.{IfSome}
-use Rattle.session.specs.SetUp.{text_read}
+use Rattle.session.specs.WholeText.{text_read}
 use Rattle.session.proofs.Printing.{limited}
-use Rattle.session.proofs.set_up.read_text.Goals as goal
+use Rattle.session.proofs.whole_text.read_text.Goals as goal
 
 pub returns : goal.returns
 returns g c =
