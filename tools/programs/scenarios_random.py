@@ -1,0 +1,310 @@
+"""Programs of random instructions of every kind, by direct and by mapped addresses.
+
+The instructions are random within bounds that keep the program running: base
+registers of loads and stores point into open pages, branches go forward, and
+the registers on which handlers and windows depend are not written.
+"""
+
+from __future__ import annotations
+
+from collections.abc import Callable
+
+import control
+import handlers
+import mapping
+import scenarios_exceptions
+import scenarios_interrupts
+import scenarios_translation
+import values
+from assembler import BRANCHES, LOADS, MNEMONICS, STORES, encode
+from mapping import Entry
+from program import Builder, Program
+from scenarios_integer import WIDTHS
+
+KEPT = (control.CRMD, control.EENTRY, control.TLBRENTRY, control.DMW0, control.DMW1, control.ERA)
+CHANGED = tuple(number for number in control.ALL if number not in KEPT)
+MEMORY_NAMES = (*LOADS, *STORES, "ll.w", "sc.w")
+
+Action = Callable[[Builder, list[int]], None]
+
+
+def _memory(b: Builder, pointers: list[int]) -> None:
+    rng = b.rng
+    name = rng.choice(MEMORY_NAMES)
+    width = WIDTHS[name]
+    offset = rng.randrange(-0x40, 0x40)
+    if rng.random() < 0.9 or name in ("ll.w", "sc.w"):
+        offset = offset // width * width
+    register = rng.choice((b.target(), b.source()))
+    if register in pointers and name not in STORES:
+        register = 0
+    b.emit(name, register, rng.choice(pointers), offset)
+
+
+def _forward(b: Builder, pointers: list[int]) -> None:
+    """A branch or jump over a few words of arithmetic."""
+    rng = b.rng
+    over = b.new_label("over")
+    draw = rng.random()
+    if draw < 0.6:
+        b.asm.branch(rng.choice(tuple(BRANCHES)), b.source(), b.source(), to=over)
+    elif draw < 0.8:
+        b.asm.branch(rng.choice(("b", "bl")), to=over)
+    else:
+        register = b.free()
+        b.emit("pcaddu12i", register, 0)
+        words = rng.randint(2, 5)
+        b.emit("jirl", rng.choice((0, register, 1)), register, 4 * words)
+        for _ in range(words - 2):
+            b.arithmetic()
+        return
+    for _ in range(rng.randint(0, 3)):
+        b.arithmetic()
+    b.asm.label(over)
+
+
+def _control(b: Builder, pointers: list[int]) -> None:
+    rng = b.rng
+    number = rng.choice(CHANGED) if rng.random() < 0.9 else control.unknown_number(rng)
+    register = b.target() if rng.random() < 0.5 else b.free()
+    if rng.random() < 0.3 and register:
+        b.load(register, scenarios_exceptions.control_value(b, number))
+    match rng.randrange(3):
+        case 0:
+            b.emit("csrrd", register, number)
+        case 1:
+            b.emit("csrwr", register, number)
+        case _:
+            b.emit("csrxchg", register, max(b.source(), 2), number)
+
+
+def _mode(b: Builder, pointers: list[int]) -> None:
+    """A change of level, of interrupts, or of the mode of addresses."""
+    rng = b.rng
+    draw = rng.random()
+    if draw < 0.5:
+        handlers.call_service(b, rng.choice((0, 0, 3, 4, 7)))
+    elif draw < 0.8:
+        value = rng.choice((0, 4)) | rng.choice((control.DIRECT, control.MAPPED, 0, 0x18))
+        b.write_control(control.CRMD, value)
+    else:
+        scenarios_exceptions.return_to_label(b, rng.choice((0, 3, 4, 7)))
+
+
+def _tlb(b: Builder, pointers: list[int]) -> None:
+    rng = b.rng
+    if rng.random() < 0.6:
+        b.emit(rng.choice(("tlbsrch", "tlbrd", "tlbwr", "tlbfill")))
+    else:
+        b.emit("invtlb", rng.choice((*range(7), *range(7), 7, 31)), b.source(), b.source())
+
+
+def _quiet(b: Builder, pointers: list[int]) -> None:
+    rng = b.rng
+    match rng.randrange(5):
+        case 0:
+            code = rng.choice((*range(16), *range(24, 32)))
+            b.emit("cacop", code, b.source(), values.signed_12(rng))
+        case 1:
+            b.emit("cacop", rng.randrange(16, 24), rng.choice(pointers), rng.randrange(-16, 16))
+        case 2:
+            b.emit("preld", rng.randrange(32), b.source(), values.signed_12(rng))
+        case 3:
+            b.emit(rng.choice(("dbar", "ibar")), values.code_15(rng))
+        case _:
+            b.emit(rng.choice(("rdcntvl.w", "rdcntvh.w")), b.target())
+
+
+def _exception(b: Builder, pointers: list[int]) -> None:
+    rng = b.rng
+    match rng.randrange(4):
+        case 0:
+            b.emit("break", values.code_15(rng))
+        case 1:
+            b.asm.word(scenarios_exceptions.undefined_word(b))
+        case 2:
+            b.emit("rdcntid.w", b.free())
+        case _:
+            b.load(b.roles.service, rng.choice((0, 0, 3)))
+            b.emit("syscall", values.code_15(rng))
+
+
+def _wait(b: Builder, pointers: list[int]) -> None:
+    """A wait for a software interrupt that is due, or for the timer."""
+    rng = b.rng
+    handlers.call_service(b, 0)
+    if rng.random() < 0.5:
+        b.write_control(control.ECFG, 3)
+        b.write_control(control.ESTAT, rng.choice((1, 2, 3)))
+    else:
+        b.write_control(control.ECFG, 0x800)
+        scenarios_interrupts.write_timer(b, rng.randint(1, 9), False)
+    b.emit("idle", 0)
+
+
+def _interrupt(b: Builder, pointers: list[int]) -> None:
+    """An interrupt at once, or the timer's a little later."""
+    rng = b.rng
+    handlers.call_service(b, 0)
+    if rng.random() < 0.5:
+        b.write_control(control.ECFG, 0x803)
+        b.write_control(control.ESTAT, rng.choice((1, 2, 3)))
+    else:
+        b.write_control(control.ECFG, 0x800)
+        scenarios_interrupts.write_timer(b, rng.randint(1, 30), rng.random() < 0.2)
+    if rng.random() < 0.5:
+        b.exchange_control(control.CRMD, 4, 4)
+    else:
+        handlers.call_service(b, rng.choice((4, 7)))
+
+
+def _arithmetic(b: Builder, pointers: list[int]) -> None:
+    b.arithmetic()
+
+
+DIRECT_ACTIONS: tuple[tuple[Action, int], ...] = (
+    (_arithmetic, 30), (_memory, 20), (_forward, 10), (_control, 12), (_mode, 5), (_tlb, 5),
+    (_quiet, 6), (_exception, 6), (_interrupt, 3), (_wait, 1),
+)
+
+
+def _pointers(b: Builder) -> list[int]:
+    """Registers that are loaded with places in open pages, and taken from the free ones."""
+    registers = b.some(3)
+    for register in registers:
+        b.load(register, b.page() + b.rng.randrange(0x100, 0xF00, 4))
+    b.take(registers)
+    return registers
+
+
+def _body(b: Builder, pointers: list[int], count: int) -> None:
+    actions = [action for action, _ in DIRECT_ACTIONS]
+    weights = [weight for _, weight in DIRECT_ACTIONS]
+    for action in b.rng.choices(actions, weights, k=count):
+        action(b, pointers)
+        if b.rng.random() < 0.08:
+            b.fold(b.free())
+
+
+def random_code(b: Builder) -> Program:
+    """Random instructions of every kind, under windows that keep the addresses."""
+    rng = b.rng
+    mapping.install_both(b)
+    window = control.window(b.layout.code >> 29, b.layout.code >> 29, True, True)
+    b.write_control(rng.choice((control.DMW0, control.DMW1)), window)
+    pointers = _pointers(b)
+    b.asm.load_address(b.roles.link, "end")
+    for register in b.some(rng.randint(2, 6)):
+        b.load(register, values.word(rng))
+    count = rng.randint(20, 60) if rng.random() < 0.94 else rng.randint(200, 350)
+    _body(b, pointers, count)
+    b.asm.label("end")
+    b.memory.extend(b.layout.pages)
+    return b.finish(40 * count)
+
+
+def random_mapped(b: Builder) -> Program:
+    """Random accesses and TLB instructions by mapped addresses, in both levels."""
+    rng = b.rng
+    label = handlers.install(b)
+    handlers.interrupt_now_and_then(b, 0.4)
+    if rng.random() < 0.5:
+        handlers.share(b, label)
+    else:
+        flags = mapping.half_flags(True, rng.random() < 0.8, 3, rng.random() < 0.5)
+        size = rng.choice((control.SMALL, control.LARGE))
+        mapping.install_refill(b, size, rng.random() < 0.5, flags << 7 | flags)
+    scenarios_translation.place_routines(b)
+    entries = scenarios_translation.random_entries(b, rng.randint(2, 5))
+    mapping.map_all(b, entries)
+    mapping.enter_mapped(b, user_window=True)
+    for _ in range(rng.randint(8, 22)):
+        draw = rng.random()
+        if draw < 0.5:
+            scenarios_translation.faulting_step(b, entries)
+        elif draw < 0.6:
+            space = b.free()
+            b.load(space, rng.choice((0, 1, 5, 0x3FF)))
+            b.load(b.roles.value, rng.choice(entries).address)
+            b.emit("invtlb", rng.randrange(8), space, b.roles.value)
+        elif draw < 0.7:
+            entry: Entry = scenarios_translation.random_entries(b, 1)[0]
+            mapping.write_entry(b, entry, fill=rng.random() < 0.5)
+        elif draw < 0.8:
+            handlers.call_service(b, rng.choice((0, 3)))
+        else:
+            b.filler(3)
+    b.memory.extend(b.layout.pages)
+    return b.finish(2200)
+
+
+def every_instruction(b: Builder) -> Program:
+    """Each mnemonic once in random order, with operands that do no harm, in either level."""
+    rng = b.rng
+    mapping.install_both(b)
+    pointers = _pointers(b)
+    b.asm.load_address(b.roles.link, "end")
+    for register in b.some(4):
+        b.load(register, values.word(rng))
+    if rng.random() < 0.3:
+        handlers.call_service(b, 3)
+    names = list(MNEMONICS)
+    rng.shuffle(names)
+    for name in names:
+        _one_of(b, name, pointers)
+    b.asm.label("end")
+    return b.finish(700)
+
+
+def _one_of(b: Builder, name: str, pointers: list[int]) -> None:
+    """An instruction of a given mnemonic."""
+    rng = b.rng
+    rd, rj, rk = b.free(), b.source(), b.source()
+    pointer = rng.choice(pointers)
+    if name in ("ertn", "idle"):
+        b.asm.word(encode("csrrd", rd, rng.choice((control.ERA, control.CRMD))))
+    elif name in BRANCHES:
+        b.emit(name, rj, rk, rng.choice((4, 4, 8)))
+        b.arithmetic()
+    elif name in ("b", "bl"):
+        b.emit(name, 8)
+        b.arithmetic()
+    elif name == "jirl":
+        b.emit("pcaddu12i", rd, 0)
+        b.emit("jirl", rd, rd, 8)
+    elif name in WIDTHS:
+        b.emit(name, rd, pointer, 4 * rng.randrange(-16, 16))
+    else:
+        b.asm.word(_plain(b, name, rd, rj, rk, pointer))
+    if rng.random() < 0.15:
+        b.fold(rd)
+
+
+def _plain(b: Builder, name: str, rd: int, rj: int, rk: int, pointer: int) -> int:
+    rng = b.rng
+    match name:
+        case "cacop" | "preld":
+            return encode(name, rng.randrange(32), pointer, values.signed_12(rng))
+        case "csrrd":
+            return encode(name, rd, rng.choice(control.ALL))
+        case "csrwr":
+            return encode(name, rd, rng.choice(CHANGED))
+        case "csrxchg":
+            return encode(name, rd, max(rj, 2), rng.choice(CHANGED))
+        case "invtlb":
+            return encode(name, rng.randrange(9), rj, rk)
+        case "rdcntid.w" | "rdcntvl.w" | "rdcntvh.w":
+            return encode(name, rd)
+        case "syscall" | "break" | "dbar" | "ibar":
+            return encode(name, values.code_15(rng))
+        case "lu12i.w" | "pcaddu12i":
+            return encode(name, rd, values.signed_20(rng))
+        case "slli.w" | "srli.w" | "srai.w":
+            return encode(name, rd, rj, values.amount_5(rng))
+        case "slti" | "sltui" | "addi.w":
+            return encode(name, rd, rj, values.signed_12(rng))
+        case "andi" | "ori" | "xori":
+            return encode(name, rd, rj, values.unsigned_12(rng))
+        case "tlbsrch" | "tlbrd" | "tlbwr" | "tlbfill":
+            return encode(name)
+    return encode(name, rd, rj, rk)
