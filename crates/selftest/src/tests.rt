@@ -1,5 +1,9 @@
+// The first program on a bank, and how often a step asks the bus, which no contract can say: a bus's meaning is the same after a read.
+ghost use Rattle.std.specs.Prelude.{◌≡◌};
+
 use crate::{Sum, add_up};
-use bus::PhysAddr;
+use bus::{Access, Bus, PhysAddr, Refusal};
+use machine::UnresetCore;
 use pages::VirtAddr;
 use parts::Bank;
 
@@ -15,4 +19,50 @@ fn the_first_program_on_a_bank(rt: HostRuntime) {
         pc: VirtAddr(0x1c00_0008),
     };
     assert_eq!(rt; add_up(&mut bank), sum);
+}
+
+// A bus that counts what it is asked.
+#[derive(Drop)]
+struct Counting<B> {
+    inner: B,
+    reads: u32,
+    writes: u32,
+}
+
+impl<B: Bus> Bus for Counting<B> {
+    ghost byte = { λ s. B.byte s.inner };
+
+    ghost sound = { λ s. B.sound s.inner };
+
+    ghost layout = { λ s. B.layout s.inner };
+
+    fn read(&mut self, access: Access) -> Result<u32, Refusal> {
+        self.reads = self.reads.wrapping_add(1);
+        self.inner.read(access)
+    }
+
+    fn write(&mut self, access: Access, value: u32) -> Result<(), Refusal> {
+        self.writes = self.writes.wrapping_add(1);
+        self.inner.write(access, value)
+    }
+}
+
+// `pcaddu12i r4, 0`, `ld.w r5, r4, 0`, `st.w r5, r4, 24`, `ld.w r5, r4, 2`
+#[test]
+fn each_access_is_asked_for_once(rt: HostRuntime) {
+    let mut memory = [
+        0x04u8, 0x00, 0x00, 0x1c, 0x85, 0x00, 0x80, 0x28, 0x85, 0x60, 0x80, 0x29, 0x85, 0x08, 0x80,
+        0x28, 0, 0, 0, 0, 0, 0, 0, 0, 0, 0, 0, 0,
+    ];
+    let mut board = Counting {
+        inner: Bank::new(PhysAddr(0x1c00_0000), &mut memory),
+        reads: 0,
+        writes: 0,
+    };
+    let mut core = UnresetCore.reset();
+    // In turn: a fetch; a fetch and a load; a fetch and a store; a fetch, the load being misaligned; the refused fetch of its handler.
+    for (reads, writes) in [(1, 0), (3, 0), (4, 1), (5, 1), (6, 1)] {
+        let _ = core.step(&mut board, 0);
+        assert_eq!(rt; (board.reads, board.writes), (reads, writes));
+    }
 }
