@@ -1,8 +1,10 @@
 -- What the driver's calls answer, and what a list of them does.
-use Rattle.std.specs.Prelude.{List, [], ◌∷◌}
+use Rattle.std.specs.Prelude.{◌≤◌, List, [], ◌∷◌}
 use Rattle.bus.specs.Memory.{Memory}
 use Rattle.machine.specs.declared.state.State.{State}
 use Rattle.machine.specs.Calls.{run, register_read, control_register_read, tlb_entry_read}
+use Rattle.machine.specs.Isolation.{FetchesNothing}
+use Rattle.machine.specs.Laws.{RunFetchesNothing}
 use Rattle.machine.specs.Outcomes.{Outcome, outcome}
 use Rattle.machine.specs.State.{reset_state}
 use Rattle.machine.specs.Step.{step}
@@ -31,3 +33,14 @@ then a rest = record rest { answer = a ∷ rest.answer }
 abbrev pub drive_of : State → Memory → List Call → Outcome (List Answer)
 drive_of s m [] = outcome [] s m
 drive_of s m (c ∷ cs) = then (answer_to s m c).answer (drive_of (answer_to s m c).state (answer_to s m c).memory cs)
+
+-- the call performs no step that fetches an instruction
+abbrev pub CallFetchesNothing : Call → State → Memory → Type 0
+CallFetchesNothing (Step levels) s m = FetchesNothing s levels
+CallFetchesNothing (Run count levels) s m = count ≤ 65536 → RunFetchesNothing count levels s m
+CallFetchesNothing _ s m = Unit {0}
+
+-- none of the calls does
+abbrev pub AllFetchNothing : List Call → State → Memory → Type 0
+AllFetchNothing [] s m = Unit {0}
+AllFetchNothing (c ∷ cs) s m = CallFetchesNothing c s m × AllFetchNothing cs (answer_to s m c).state (answer_to s m c).memory

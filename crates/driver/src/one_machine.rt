@@ -1,7 +1,7 @@
 // One machine, a core on any bus, given calls.
 ghost use Rattle.std.specs.Prelude.{◌≡◌, IfOk, IfErr};
 ghost use Rattle.machine.specs.Outcomes.{outcome};
-ghost use Rattle.driver.specs.Calls.{answer_to, drive_of};
+ghost use Rattle.driver.specs.Calls.{answer_to, drive_of, CallFetchesNothing, AllFetchNothing};
 ghost use Rattle.driver.specs.Isolation.{AllConfined, DriveIsolated};
 
 use crate::call::{Answer, Call};
@@ -13,6 +13,9 @@ use std::alloc::{AllocError, Global};
 pub fn perform<B: Bus>(core: &mut RunningCore, bus: &mut B, call: Call) -> Answer
     ensures value { outcome result core.new (B.byte bus.new) ≡ answer_to core.old (B.byte bus.old) call }
     ensures kept { B.layout bus.new ≡ B.layout bus.old }
+
+    // A call of which no step fetches leaves the bus alone, with all that it keeps for itself.
+    ensures untouched { CallFetchesNothing call core.old (B.byte bus.old) → bus.new ≡ bus.old }
 {
     match call {
         Call::Reset => {
@@ -38,6 +41,7 @@ pub fn drive<B: Bus>(
     ensures value { IfOk result (λ answers. outcome answers.items core.new (B.byte bus.new) ≡ drive_of core.old (B.byte bus.old) calls.now) }
     ensures unmade { IfErr result (λ _. (core.new ≡ core.old) × (B.byte bus.new ≡ B.byte bus.old)) }
     ensures kept { B.layout bus.new ≡ B.layout bus.old }
+    ensures untouched { AllFetchNothing calls.now core.old (B.byte bus.old) → bus.new ≡ bus.old }
     ensures isolated { IfOk result (λ answers. DriveIsolated calls.now core.old (B.byte bus.old) (outcome answers.items core.new (B.byte bus.new))) }
     ensures confined { AllConfined calls.now core.old (B.byte bus.old) }
 {

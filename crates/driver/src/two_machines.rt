@@ -2,7 +2,7 @@
 ghost use Rattle.std.specs.Prelude.{◌≡◌, IfOk, IfErr};
 ghost use Rattle.machine.specs.Outcomes.{outcome};
 ghost use Rattle.machine.specs.State.{reset_state};
-ghost use Rattle.driver.specs.Calls.{drive_of};
+ghost use Rattle.driver.specs.Calls.{drive_of, AllFetchNothing};
 ghost use Rattle.driver.specs.Isolation.{Isolated, AllConfined};
 
 use crate::call::{Answer, Call};
@@ -27,6 +27,8 @@ pub fn lockstep<A: Bus, B: Bus>(
     ensures unmade_right { IfErr result (λ _. (right.new ≡ right.old) × (B.byte right_bus.new ≡ B.byte right_bus.old)) }
     ensures left_kept { A.layout left_bus.new ≡ A.layout left_bus.old }
     ensures right_kept { B.layout right_bus.new ≡ B.layout right_bus.old }
+    ensures left_untouched { AllFetchNothing calls.now reset_state (A.byte left_bus.old) → left_bus.new ≡ left_bus.old }
+    ensures right_untouched { AllFetchNothing calls.now reset_state (B.byte right_bus.old) → right_bus.new ≡ right_bus.old }
 
     // The isolation theorem: what both machines come to, and each step of either.
     ensures isolated { IfOk result (λ both. Isolated calls.now reset_state (A.byte left_bus.old) (B.byte right_bus.old) (outcome both.0.items left.new (A.byte left_bus.new)) (outcome both.1.items right.new (B.byte right_bus.new))) }

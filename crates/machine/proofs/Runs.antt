@@ -1,11 +1,13 @@
 -- A run, step by step.
-use Rattle.std.proofs.Common.{◌≡◌, ℕ, suc, ◌+◌, ◌-◌, ◌<◌, Some, Ok, Err, sym, ap, ◌∙◌, arith}
+use Rattle.std.proofs.Common.{◌≡◌, ℕ, suc, ◌+◌, ◌-◌, ◌<◌, Some, Ok, Err, sym, ap, subst, ◌∙◌, arith}
 use Rattle.bus.specs.Memory.{Memory}
 use Rattle.machine.specs.declared.answers.Event.{Event}
 use Rattle.machine.specs.declared.answers.RunReport.{RunReport}
 use Rattle.machine.specs.declared.answers.StepRefusal.{StepRefusal}
 use Rattle.machine.specs.declared.state.State.{State}
-use Rattle.machine.specs.Outcomes.{Outcome, outcome}
+use Rattle.machine.specs.Isolation.{FetchesNothing}
+use Rattle.machine.specs.Laws.{RunPerforms, first, later, RunFetchesNothing}
+use Rattle.machine.specs.Outcomes.{Outcome, StepAnswer, outcome}
 use Rattle.machine.specs.Step.{step, ran_on, run_of}
 
 -- a run of which k steps were made before
@@ -39,3 +41,18 @@ cut_short count k levels s t m n e l is =
     ap (λ j. outcome (record { steps = j; refusal = Some e }) t n) none
     ∙ ap (λ o. further k (ran_on o.answer o (run_of left levels o.state o.memory))) is
     ∙ sym (ap (further k) (run_at count k levels s m l))
+
+-- of a run of which no step fetches: the next step does not, and neither do those behind it
+pub first_unfetched : (count k levels : ℕ) (s : State) (m : Memory) → k < count → RunFetchesNothing (count - k) levels s m → FetchesNothing s levels
+first_unfetched count k levels s m l none =
+    let e : suc (count - (k + 1)) ≡ count - k = omega arith in
+    none s m (subst (λ n. RunPerforms levels n s m s m) e first)
+
+pub later_unfetched : (count k levels : ℕ) (s t : State) (m n : Memory) (e : Event) → k < count → outcome (Ok e) t n ≡ step s levels m
+    → RunFetchesNothing (count - k) levels s m → RunFetchesNothing (count - (k + 1)) levels t n
+later_unfetched count k levels s t m n e l is none u q performs =
+    let left = count - (k + 1) in
+    let one_more : suc left ≡ count - k = omega arith in
+    let accepted : (step s levels m).answer ≡ Ok e = sym (ap (λ (o : Outcome StepAnswer). o.answer) is) in
+    none u q (subst (λ j. RunPerforms levels j s m u q) one_more
+    (later e accepted (subst (λ (o : Outcome StepAnswer). RunPerforms levels left o.state o.memory u q) is performs)))

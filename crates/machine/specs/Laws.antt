@@ -10,7 +10,7 @@ use Rattle.machine.specs.declared.answers.RunReport.{RunReport}
 use Rattle.machine.specs.declared.answers.StepRefusal.{StepRefusal}
 use Rattle.machine.specs.declared.state.State.{State}
 use Rattle.machine.specs.Answers.{step_refusal_number, step_refusal_address}
-use Rattle.machine.specs.Isolation.{Asks, Withheld, Agree, Alike}
+use Rattle.machine.specs.Isolation.{Asks, FetchesNothing, Withheld, Agree, Alike}
 use Rattle.machine.specs.Outcomes.{Outcome, StepAnswer}
 use Rattle.machine.specs.Step.{step, run_of}
 
@@ -64,6 +64,10 @@ pub data RunPerforms (levels : ℕ) : ℕ → State → Memory → State → Mem
   first : {n : ℕ} {s : State} {m : Memory} → RunPerforms levels (suc n) s m s m
   later : {n : ℕ} {s t : State} {m k : Memory} (e : Event) → (step s levels m).answer ≡ Ok e
       → RunPerforms levels n (step s levels m).state (step s levels m).memory t k → RunPerforms levels (suc n) s m t k
+
+-- no step that the run performs fetches an instruction, as where the core waits all the while
+abbrev pub RunFetchesNothing : ℕ → ℕ → State → Memory → Type 0
+RunFetchesNothing count levels s m = (t : State) (k : Memory) → RunPerforms levels count s m t k → FetchesNothing t levels
 
 -- bytes are withheld from each step that the run performs
 abbrev pub RunWithheld : (ℕ → Bool) → ℕ → ℕ → State → Memory → Type 0

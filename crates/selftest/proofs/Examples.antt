@@ -139,10 +139,10 @@ worked_examples = record {
 }
 
 -- what is read out of a core that ran the first program
-pub summed : (m : Memory) (s core : State) (n : Memory) (ran : Result RunReport CallRefusal) (r4 r5 : ℕ) (pc : VirtAddr) → HoldsAddition m
+pub summed : (m : Memory) (s core : State) (n : Memory) (ran : Result RunReport CallRefusal) (r4 r5 counter : ℕ) (pc : VirtAddr) → HoldsAddition m
     → s ≡ reset_state → outcome ran core n ≡ run s 3 0 m → r4 ≡ gr core.user.general (reg_of 4) → r5 ≡ gr core.user.general (reg_of 5)
-    → pc ≡ core.user.pc → ◌≡◌ {A = Sum} (record { r4 = r4; r5 = r5; pc = pc }) the_sum
-summed m s core n ran r4 r5 pc holds fresh is four five at =
+    → pc ≡ core.user.pc → counter ≡ core.registers.timer.counter → ◌≡◌ {A = Sum} (record { r4 = r4; r5 = r5; pc = pc; counter = counter }) the_sum
+summed m s core n ran r4 r5 counter pc holds fresh is four five at counted =
     let left : core ≡ sum_3 = ap (λ o. o.state) is ∙ ap (λ (t : State). (run t 3 0 m).state) fresh ∙ sum_run m holds in
-    (λ i. record { r4 = four i; r5 = five i; pc = at i })
-    ∙ (λ i. record { r4 = gr (left i).user.general (reg_of 4); r5 = gr (left i).user.general (reg_of 5); pc = (left i).user.pc })
+    (λ i. record { r4 = four i; r5 = five i; pc = at i; counter = counted i })
+    ∙ (λ i. record { r4 = gr (left i).user.general (reg_of 4); r5 = gr (left i).user.general (reg_of 5); pc = (left i).user.pc; counter = (left i).registers.timer.counter })

@@ -14,4 +14,4 @@ pub record HoldsAddition (m : Memory) : Type 0 where
   pub third : HoldsWord m 0x1c000008 0x50000000
 
 abbrev pub the_sum : Sum
-the_sum = record { r4 = 0xffffffff; r5 = 0xfffffffe; pc = virtual 0x1c000008 }
+the_sum = record { r4 = 0xffffffff; r5 = 0xfffffffe; pc = virtual 0x1c000008; counter = 3 }

@@ -13,6 +13,8 @@ pub struct Sum {
     pub r4: u32,
     pub r5: u32,
     pub pc: VirtAddr,
+    // How many steps were made.
+    pub counter: u64,
 }
 
 // Resets a core, runs three steps on the bus, and closes it. What it gives is known if the bus holds the program at the reset address.
@@ -28,9 +30,11 @@ pub fn add_up<B: Bus>(bus: &mut B) -> Sum
     let _ = core.run(bus, 3, 0);
     let r4 = core.register(4).unwrap_or(0);
     let r5 = core.register(5).unwrap_or(0);
+    let closed = core.close();
     Sum {
         r4,
         r5,
-        pc: core.close().pc(),
+        pc: closed.pc(),
+        counter: closed.counter(),
     }
 }

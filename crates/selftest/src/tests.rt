@@ -17,6 +17,7 @@ fn the_first_program_on_a_bank(rt: HostRuntime) {
         r4: 0xffff_ffff,
         r5: 0xffff_fffe,
         pc: VirtAddr(0x1c00_0008),
+        counter: 3,
     };
     assert_eq!(rt; add_up(&mut bank), sum);
 }

@@ -1,5 +1,5 @@
 use Rattle.std.proofs.Common.{◌≡◌, ◌≤◌, ◌++◌, length, drop, vec_items, vec_len, vec_capacity}
-use Rattle.driver.specs.Calls.{drive_of}
+use Rattle.driver.specs.Calls.{drive_of, AllFetchNothing}
 use Rattle.machine.specs.State.{reset_state}
 use Rattle.driver.proofs.two_machines.lockstep.Given as goal
 
@@ -18,3 +18,5 @@ invariant-loop-call g l =
     × (g.B.Bus.layout l.right_bus ≡ g.B.Bus.layout l.initial.right_bus)
     × (vec_len l.right_answers ≡ l.call-index)
     × (length l.calls ≤ vec_capacity l.right_answers)
+    × (AllFetchNothing l.calls reset_state (g.A.Bus.byte l.initial.left_bus) → (l.left_bus ≡ l.initial.left_bus) × AllFetchNothing (drop l.call-index l.calls) l.left (g.A.Bus.byte l.left_bus))
+    × (AllFetchNothing l.calls reset_state (g.B.Bus.byte l.initial.right_bus) → (l.right_bus ≡ l.initial.right_bus) × AllFetchNothing (drop l.call-index l.calls) l.right (g.B.Bus.byte l.right_bus))

@@ -1,5 +1,5 @@
 use Rattle.std.proofs.Common.{◌∙◌}
-use Rattle.machine.proofs.Runs.{one_more, cut_short}
+use Rattle.machine.proofs.Runs.{one_more, cut_short, first_unfetched, later_unfetched}
 use Rattle.machine.proofs.state.State.run.Goals as goal
 
 pub returns-in-Err-clause-value : goal.returns-in-Err-clause-value
@@ -14,4 +14,17 @@ loop-steps-preserved g c = (
       c.in_default.field-0 c.loop-steps-test.true c.in_default.ensures.value
       ∙ c.loop-steps.invariant.0,
   c.step.ensures.kept ∙ c.loop-steps.invariant.1,
+  λ none.
+      let so_far = c.loop-steps.invariant.2 none in
+      let here = g.B.Bus.byte c.loop-steps.bus in (
+        c.step.ensures.untouched (first_unfetched c.args.count c.loop-steps.steps c.args.levels c.loop-steps.self here c.loop-steps-test.true so_far.1) ∙ so_far.0,
+        later_unfetched c.args.count c.loop-steps.steps c.args.levels c.loop-steps.self c.step.new.self here (g.B.Bus.byte c.step.new.bus)
+            c.in_default.field-0 c.loop-steps-test.true c.in_default.ensures.value so_far.1,
+      ),
 )
+
+pub returns-in-Err-clause-untouched : goal.returns-in-Err-clause-untouched
+returns-in-Err-clause-untouched g c none =
+    let so_far = c.loop-steps.invariant.2 none in
+    c.step.ensures.untouched (first_unfetched c.args.count c.loop-steps.steps c.args.levels c.loop-steps.self (g.B.Bus.byte c.loop-steps.bus) c.loop-steps-test.true so_far.1)
+    ∙ so_far.0
