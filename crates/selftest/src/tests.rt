@@ -1,18 +1,25 @@
-// The first program on a bank, and how often a step asks the bus, which no contract can say: a bus's meaning is the same after a read.
+// The first program on a bank, and what no contract can say: that there is memory for a list's answers, and how often a step asks the bus, whose
+// meaning is the same after a read.
 ghost use Rattle.std.specs.Prelude.{◌≡◌};
 
 use crate::{Sum, add_up};
 use bus::{Access, Bus, PhysAddr, Refusal};
-use machine::UnresetCore;
+use csr::Cause;
+use driver::{Answer, Call, drive};
+use machine::{CallRefusal, Event, UnresetCore};
 use pages::VirtAddr;
 use parts::Bank;
 
+const START: PhysAddr = PhysAddr(0x1c00_0000);
+
+const FIRST_PROGRAM: [u8; 12] = [
+    0x04, 0xfc, 0xbf, 0x02, 0x85, 0x10, 0x10, 0x00, 0x00, 0x00, 0x00, 0x50,
+];
+
 #[test]
 fn the_first_program_on_a_bank(rt: HostRuntime) {
-    let mut memory = [
-        0x04u8, 0xfc, 0xbf, 0x02, 0x85, 0x10, 0x10, 0x00, 0x00, 0x00, 0x00, 0x50,
-    ];
-    let mut bank = Bank::new(PhysAddr(0x1c00_0000), &mut memory);
+    let mut memory = FIRST_PROGRAM;
+    let mut bank = Bank::new(START, &mut memory);
     let sum = Sum {
         r4: 0xffff_ffff,
         r5: 0xffff_fffe,
@@ -20,6 +27,37 @@ fn the_first_program_on_a_bank(rt: HostRuntime) {
         counter: 3,
     };
     assert_eq!(rt; add_up(&mut bank), sum);
+}
+
+#[test]
+fn a_list_of_two_calls(rt: HostRuntime) {
+    let mut memory = FIRST_PROGRAM;
+    let mut bank = Bank::new(START, &mut memory);
+    let mut core = UnresetCore.reset();
+    let calls = [Call::Step { levels: 0 }, Call::Register(4)];
+    let answers = drive(rt.alloc(), &mut core, &mut bank, &calls);
+    assert_eq!(rt;
+        answers.as_deref().ok(),
+        Some(
+            &[
+                Answer::Step(Ok(Event::Done)),
+                Answer::Register(Ok(0xffff_ffff))
+            ][..]
+        )
+    );
+}
+
+#[test]
+fn numbers_of_answers(rt: HostRuntime) {
+    let events = [Event::Done, Event::Waiting, Event::Exception(Cause::Sys)];
+    assert_eq!(rt; events.map(Event::number), [0, 1, 2]);
+    let refusals = [
+        CallRefusal::NoRegister,
+        CallRefusal::NoControlRegister,
+        CallRefusal::NoTlbEntry,
+        CallRefusal::RunTooLong,
+    ];
+    assert_eq!(rt; refusals.map(CallRefusal::number), [3, 4, 5, 6]);
 }
 
 // A bus that counts what it is asked.
@@ -56,7 +94,7 @@ fn each_access_is_asked_for_once(rt: HostRuntime) {
         0x28, 0, 0, 0, 0, 0, 0, 0, 0, 0, 0, 0, 0,
     ];
     let mut board = Counting {
-        inner: Bank::new(PhysAddr(0x1c00_0000), &mut memory),
+        inner: Bank::new(START, &mut memory),
         reads: 0,
         writes: 0,
     };
