@@ -25,28 +25,28 @@ pub(crate) enum TextLine {
     Show,
 }
 
-fn one(field: &[u8]) -> Option<u32> {
+fn number(field: &[u8]) -> Option<u32> {
     Some(HexField::new(field)?.value())
 }
 
-fn two(fields: &[u8]) -> Option<(u32, u32)> {
+fn two_numbers(fields: &[u8]) -> Option<(u32, u32)> {
     if fields.len() != 17 || fields[8] != b',' {
         return None;
     }
-    Some((one(&fields[..8])?, one(&fields[9..])?))
+    Some((number(&fields[..8])?, number(&fields[9..])?))
 }
 
 fn address(field: &[u8]) -> Option<PhysAddr> {
-    Some(PhysAddr(one(field)?))
+    Some(PhysAddr(number(field)?))
 }
 
 fn addresses(fields: &[u8]) -> Option<(PhysAddr, PhysAddr)> {
-    let (first, second) = two(fields)?;
+    let (first, second) = two_numbers(fields)?;
     Some((PhysAddr(first), PhysAddr(second)))
 }
 
 fn address_and_word(fields: &[u8]) -> Option<(PhysAddr, u32)> {
-    let (at, word) = two(fields)?;
+    let (at, word) = two_numbers(fields)?;
     Some((PhysAddr(at), word))
 }
 
@@ -79,7 +79,7 @@ impl PlanLine {
 
 // The levels are the lowest eight bits.
 fn run_call(fields: &[u8]) -> Option<Call> {
-    let (count, levels) = two(fields)?;
+    let (count, levels) = two_numbers(fields)?;
     Some(Call::Run {
         count,
         levels: (levels % 256) as u8,
@@ -87,7 +87,7 @@ fn run_call(fields: &[u8]) -> Option<Call> {
 }
 
 fn step_call(field: &[u8]) -> Option<Call> {
-    let levels = (one(field)? % 256) as u8;
+    let levels = (number(field)? % 256) as u8;
     Some(Call::Step { levels })
 }
 

@@ -52,7 +52,8 @@ impl Plan {
         }
     }
 
-    // Of all lines that say what the board is made of; the image gets its words.
+    // Of all lines that say what the board is made of; the image gets its words. The other lines are read again when they are
+    // answered, so that no list of lines is kept.
     pub(crate) fn read(text: &[u8], image: &mut [u8]) -> Plan {
         let mut plan = Plan::new();
         let mut rest = text;

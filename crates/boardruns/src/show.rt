@@ -6,8 +6,12 @@ use pages::Half;
 use std::io;
 use tlb::Entry;
 
+const GENERAL_REGISTERS: u32 = 32;
+
 // Control registers have numbers of 14 bits.
 const CONTROL_NUMBERS: u32 = 0x4000;
+
+const TLB_ENTRIES: u32 = 16;
 
 pub(crate) fn write(rt: &HostRuntime, answer: Result<(), Refusal>) -> io::Result<()> {
     match answer {
@@ -23,7 +27,7 @@ pub(crate) fn read(rt: &HostRuntime, answer: Result<u32, Refusal>) -> io::Result
     }
 }
 
-// The answer to a reset, a step or a run. The others are shown by `core`.
+// The answer to a reset, a step or a run, which are the calls that a line may be.
 pub(crate) fn answer(rt: &HostRuntime, answer: &Answer, core: &RunningCore) -> io::Result<()> {
     match answer {
         Answer::Step(Ok(event)) => show_event(rt, event),
@@ -64,19 +68,19 @@ fn show_report(rt: &HostRuntime, report: &RunReport, core: &RunningCore) -> io::
 // The PC, and what differs from 0 or from what reset leaves.
 pub(crate) fn core(rt: &HostRuntime, core: &RunningCore) -> io::Result<()> {
     println!(rt; "pc {:08X}", core.pc().0)?;
-    for number in 0..32u32 {
-        show_number(rt, core.register(number), number)?;
+    for number in 0..GENERAL_REGISTERS {
+        show_register(rt, core.register(number), number)?;
     }
     for number in 0..CONTROL_NUMBERS {
         show_control(rt, core.control_register(number), number)?;
     }
-    for number in 0..16u32 {
+    for number in 0..TLB_ENTRIES {
         show_entry(rt, core.tlb_entry(number), number)?;
     }
     Ok(())
 }
 
-fn show_number(rt: &HostRuntime, value: Result<u32, CallRefusal>, number: u32) -> io::Result<()> {
+fn show_register(rt: &HostRuntime, value: Result<u32, CallRefusal>, number: u32) -> io::Result<()> {
     match value {
         Ok(value) if value != 0 => println!(rt; "gr {number} {value:08X}"),
         _ => Ok(()),

@@ -1,5 +1,5 @@
 -- What the driver's calls answer, and what a list of them does.
-use Rattle.std.specs.Prelude.{◌≤◌, List, [], ◌∷◌}
+use Rattle.std.specs.Prelude.{List, [], ◌∷◌}
 use Rattle.bus.specs.Memory.{Memory}
 use Rattle.machine.specs.declared.state.State.{State}
 use Rattle.machine.specs.Calls.{run, register_read, control_register_read, tlb_entry_read}
@@ -34,13 +34,13 @@ abbrev pub drive_of : State → Memory → List Call → Outcome (List Answer)
 drive_of s m [] = outcome [] s m
 drive_of s m (c ∷ cs) = then (answer_to s m c).answer (drive_of (answer_to s m c).state (answer_to s m c).memory cs)
 
--- the call performs no step that fetches an instruction
+-- no step that the call performs fetches an instruction
 abbrev pub CallFetchesNothing : Call → State → Memory → Type 0
 CallFetchesNothing (Step levels) s m = FetchesNothing s levels
-CallFetchesNothing (Run count levels) s m = count ≤ 65536 → RunFetchesNothing count levels s m
+CallFetchesNothing (Run count levels) s m = RunFetchesNothing count levels s m
 CallFetchesNothing _ s m = Unit {0}
 
--- none of the calls does
+-- no step that the calls perform fetches an instruction
 abbrev pub AllFetchNothing : List Call → State → Memory → Type 0
 AllFetchNothing [] s m = Unit {0}
 AllFetchNothing (c ∷ cs) s m = CallFetchesNothing c s m × AllFetchNothing cs (answer_to s m c).state (answer_to s m c).memory

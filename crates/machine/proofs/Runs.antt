@@ -6,7 +6,7 @@ use Rattle.machine.specs.declared.answers.RunReport.{RunReport}
 use Rattle.machine.specs.declared.answers.StepRefusal.{StepRefusal}
 use Rattle.machine.specs.declared.state.State.{State}
 use Rattle.machine.specs.Isolation.{FetchesNothing}
-use Rattle.machine.specs.Laws.{RunPerforms, first, later, RunFetchesNothing}
+use Rattle.machine.specs.Laws.{RunPerforms, first, later, NoStepFetches}
 use Rattle.machine.specs.Outcomes.{Outcome, StepAnswer, outcome}
 use Rattle.machine.specs.Step.{step, ran_on, run_of}
 
@@ -43,13 +43,13 @@ cut_short count k levels s t m n e l is =
     ∙ sym (ap (further k) (run_at count k levels s m l))
 
 -- of a run of which no step fetches: the next step does not, and neither do those behind it
-pub first_unfetched : (count k levels : ℕ) (s : State) (m : Memory) → k < count → RunFetchesNothing (count - k) levels s m → FetchesNothing s levels
+pub first_unfetched : (count k levels : ℕ) (s : State) (m : Memory) → k < count → NoStepFetches (count - k) levels s m → FetchesNothing s levels
 first_unfetched count k levels s m l none =
     let e : suc (count - (k + 1)) ≡ count - k = omega arith in
     none s m (subst (λ n. RunPerforms levels n s m s m) e first)
 
 pub later_unfetched : (count k levels : ℕ) (s t : State) (m n : Memory) (e : Event) → k < count → outcome (Ok e) t n ≡ step s levels m
-    → RunFetchesNothing (count - k) levels s m → RunFetchesNothing (count - (k + 1)) levels t n
+    → NoStepFetches (count - k) levels s m → NoStepFetches (count - (k + 1)) levels t n
 later_unfetched count k levels s t m n e l is none u q performs =
     let left = count - (k + 1) in
     let one_more : suc left ≡ count - k = omega arith in

@@ -1,5 +1,5 @@
 -- Laws of steps and runs.
-use Rattle.std.specs.Prelude.{◌≡◌, ℕ, suc, ◌+◌, Bool, true, false, Some, None, Option, Ok, Err}
+use Rattle.std.specs.Prelude.{◌≡◌, ℕ, suc, ◌≤◌, ◌+◌, Bool, true, false, Some, None, Option, Ok, Err}
 use Rattle.bus.specs.Memory.{Memory, address, is_absent, is_fixed}
 use Rattle.pages.specs.declared.access_kind.AccessKind.TheVariants.{Store}
 use Rattle.pages.specs.declared.privilege.Privilege.TheVariants.{Plv0}
@@ -65,9 +65,13 @@ pub data RunPerforms (levels : ℕ) : ℕ → State → Memory → State → Mem
   later : {n : ℕ} {s t : State} {m k : Memory} (e : Event) → (step s levels m).answer ≡ Ok e
       → RunPerforms levels n (step s levels m).state (step s levels m).memory t k → RunPerforms levels (suc n) s m t k
 
--- no step that the run performs fetches an instruction, as where the core waits all the while
+-- no step of a run of so many fetches an instruction
+abbrev pub NoStepFetches : ℕ → ℕ → State → Memory → Type 0
+NoStepFetches count levels s m = (t : State) (k : Memory) → RunPerforms levels count s m t k → FetchesNothing t levels
+
+-- the same of any count: a run of too many steps is refused and makes none
 abbrev pub RunFetchesNothing : ℕ → ℕ → State → Memory → Type 0
-RunFetchesNothing count levels s m = (t : State) (k : Memory) → RunPerforms levels count s m t k → FetchesNothing t levels
+RunFetchesNothing count levels s m = count ≤ 65536 → NoStepFetches count levels s m
 
 -- bytes are withheld from each step that the run performs
 abbrev pub RunWithheld : (ℕ → Bool) → ℕ → ℕ → State → Memory → Type 0

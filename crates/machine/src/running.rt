@@ -1,5 +1,5 @@
 // Steps and runs of a running core.
-ghost use Rattle.std.specs.Prelude.{◌≡◌, ℕ, ◌≤◌, ◌+◌, ◌%◌, ◌^◌, true, IfOk, IfErr, OnErr};
+ghost use Rattle.std.specs.Prelude.{◌≡◌, ℕ, ◌+◌, ◌%◌, ◌^◌, true, IfOk, IfErr, OnErr};
 ghost use Rattle.bus.specs.Memory.{Memory};
 ghost use Rattle.control.specs.Exceptions.{interrupted};
 ghost use Rattle.machine.specs.declared.state.State.{State as TheState};
@@ -51,8 +51,8 @@ impl RunningCore {
         ensures kept { B.layout bus.new ≡ B.layout bus.old }
 
         // A run that is refused, or of which no step fetches, leaves the bus alone, with all that it keeps for itself.
-        ensures untouched { OnErr result (bus.new ≡ bus.old) }
-        ensures unfetched { (count ≤ 65536 → RunFetchesNothing count levels self.old (B.byte bus.old)) → bus.new ≡ bus.old }
+        ensures refused { OnErr result (bus.new ≡ bus.old) }
+        ensures untouched { RunFetchesNothing count levels self.old (B.byte bus.old) → bus.new ≡ bus.old }
 
         // The counter has risen by the accepted steps, which are those that are reported.
         ensures counter { IfOk result (λ report. self.new.registers.timer.counter % 2 ^ 64 ≡ (self.old.registers.timer.counter + report.steps) % 2 ^ 64) }

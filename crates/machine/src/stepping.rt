@@ -3,7 +3,7 @@ ghost use Rattle.std.specs.Prelude.{◌≡◌, false};
 ghost use Rattle.csr.specs.Interrupts.{due};
 ghost use Rattle.control.specs.Exceptions.{interrupted};
 ghost use Rattle.machine.specs.Isolation.{LeadsNowhere, FetchesNothing};
-ghost use Rattle.machine.specs.Laws.{RunFetchesNothing};
+ghost use Rattle.machine.specs.Laws.{NoStepFetches};
 ghost use Rattle.machine.specs.Outcomes.{outcome};
 ghost use Rattle.machine.specs.Step.{keeps_waiting, act, step, run_of};
 
@@ -52,7 +52,7 @@ impl State {
     pub(crate) fn run<B: Bus>(&mut self, bus: &mut B, count: u32, levels: u8) -> RunReport
         ensures value { outcome result self.new (B.byte bus.new) ≡ run_of count levels self.old (B.byte bus.old) }
         ensures kept { B.layout bus.new ≡ B.layout bus.old }
-        ensures untouched { RunFetchesNothing count levels self.old (B.byte bus.old) → bus.new ≡ bus.old }
+        ensures untouched { NoStepFetches count levels self.old (B.byte bus.old) → bus.new ≡ bus.old }
     {
         for steps in 0..count {
             if let Err(refusal) = self.step(bus, levels) {

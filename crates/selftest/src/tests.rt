@@ -1,5 +1,5 @@
-// The first program on a bank, and what no contract can say: that there is memory for a list's answers, and how often a step asks the bus, whose
-// meaning is the same after a read.
+// The first program on a bank; numbers of answers, as the documents have them; and what no contract can say: that there is memory for a list's
+// answers, and how often a step asks the bus, whose meaning is the same after a read.
 ghost use Rattle.std.specs.Prelude.{◌≡◌};
 
 use crate::{Sum, add_up};
@@ -86,22 +86,51 @@ impl<B: Bus> Bus for Counting<B> {
     }
 }
 
-// `pcaddu12i r4, 0`, `ld.w r5, r4, 0`, `st.w r5, r4, 24`, `ld.w r5, r4, 2`
+// `pcaddu12i r4, 0`, `sc.w r5, r4, 0`, `ll.w r5, r4, 0`, `sc.w r5, r4, 48`, `cacop 16, r4, 0`, `preld 0, r4, 0`, `st.b r5, r4, 48`, and
+// `ld.w r5, r4, 2`, which is misaligned.
+const ASKING: [u8; 52] = [
+    0x04, 0x00, 0x00, 0x1c, 0x85, 0x00, 0x00, 0x21, 0x85, 0x00, 0x00, 0x20, 0x85, 0x30, 0x00, 0x21,
+    0x90, 0x00, 0x00, 0x06, 0x80, 0x00, 0xc0, 0x2a, 0x85, 0xc0, 0x00, 0x29, 0x85, 0x08, 0x80, 0x28,
+    0, 0, 0, 0, 0, 0, 0, 0, 0, 0, 0, 0, 0, 0, 0, 0, 0, 0, 0, 0,
+];
+
+// The reads and writes so far, after each of its steps and after the refused fetch of a handler that is not there.
+const ASKED: [(u32, u32); 9] = [
+    (1, 0),
+    (2, 0),
+    (4, 0),
+    (5, 1),
+    (6, 1),
+    (7, 1),
+    (8, 2),
+    (9, 2),
+    (10, 2),
+];
+
 #[test]
 fn each_access_is_asked_for_once(rt: HostRuntime) {
-    let mut memory = [
-        0x04u8, 0x00, 0x00, 0x1c, 0x85, 0x00, 0x80, 0x28, 0x85, 0x60, 0x80, 0x29, 0x85, 0x08, 0x80,
-        0x28, 0, 0, 0, 0, 0, 0, 0, 0, 0, 0, 0, 0,
-    ];
+    let mut memory = ASKING;
     let mut board = Counting {
         inner: Bank::new(START, &mut memory),
         reads: 0,
         writes: 0,
     };
     let mut core = UnresetCore.reset();
-    // In turn: a fetch; a fetch and a load; a fetch and a store; a fetch, the load being misaligned; the refused fetch of its handler.
-    for (reads, writes) in [(1, 0), (3, 0), (4, 1), (5, 1), (6, 1)] {
+    for asked in ASKED {
         let _ = core.step(&mut board, 0);
-        assert_eq!(rt; (board.reads, board.writes), (reads, writes));
+        assert_eq!(rt; (board.reads, board.writes), asked);
     }
+}
+
+#[test]
+fn a_run_asks_as_its_steps_do(rt: HostRuntime) {
+    let mut memory = ASKING;
+    let mut board = Counting {
+        inner: Bank::new(START, &mut memory),
+        reads: 0,
+        writes: 0,
+    };
+    let mut core = UnresetCore.reset();
+    let _ = core.run(&mut board, 9, 0);
+    assert_eq!(rt; (board.reads, board.writes), (10, 2));
 }

@@ -8,4 +8,4 @@ returns-in-Step-clause-untouched g c none =
 
 pub returns-in-Run-clause-untouched : goal.returns-in-Run-clause-untouched
 returns-in-Run-clause-untouched g c none =
-    c.run.ensures.unfetched (subst (λ call. CallFetchesNothing call c.args.core.now (g.B.Bus.byte c.args.bus.now)) c.in-Run.is none)
+    c.run.ensures.untouched (subst (λ call. CallFetchesNothing call c.args.core.now (g.B.Bus.byte c.args.bus.now)) c.in-Run.is none)
