@@ -5,7 +5,7 @@
 
 makes 1,000 set-ups and 1,000 board texts, runs the set-ups by `listings` and the board texts by `boardruns`, and the emulator of
 tools/emulator on both. The proved programs have to stand in their folders' out/ already, as `rt run` leaves them. A text on
-which the two differ is kept, with both outputs, in a folder that the last line names, and the exit status is 1 then.
+which the two differ, or at which either fails, is kept with both outputs in the folder of --keep, and the exit status is 1 then.
 """
 import argparse
 import collections
@@ -54,11 +54,21 @@ def generate(kind: Kind, seed: int, count: int, folder: pathlib.Path) -> list[st
     return sorted(path.name for path in folder.iterdir())
 
 
-def answers(command: list, names: list[str], folder: pathlib.Path) -> dict[str, bytes]:
-    """What a program prints for each text, by the lines `== NAME` that it parts them with."""
-    printed = subprocess.run([*command, *names], cwd=folder, check=True, stdout=subprocess.PIPE).stdout
+def by_name(printed: bytes) -> dict[str, bytes]:
+    """What was printed for each text, by the lines `== NAME` between them."""
     parts = re.split(rb"^== (.*)\n", printed, flags=re.MULTILINE)[1:]
     return {name.decode(): text for name, text in zip(parts[::2], parts[1::2])}
+
+
+def answers(command: list, names: list[str], folder: pathlib.Path) -> dict[str, bytes]:
+    """What a program prints for each text. A text at which it fails has what it says of that; those behind are run anew."""
+    run = subprocess.run([*command, *names], cwd=folder, capture_output=True)
+    found = by_name(run.stdout)
+    if run.returncode == 0:
+        return found
+    at = max(len(found) - 1, 0)
+    failed = f"status {run.returncode}\n".encode() + run.stderr
+    return found | {names[at]: failed} | (answers(command, names[at + 1 :], folder) if names[at + 1 :] else {})
 
 
 def keep(kept: pathlib.Path, folder: pathlib.Path, name: str, proved: bytes, emulated: bytes) -> None:
@@ -96,6 +106,8 @@ def main() -> None:
     parser.add_argument("--seed", type=int, default=1)
     parser.add_argument("--keep", type=pathlib.Path, default=pathlib.Path("differences"))
     options = parser.parse_args()
+    if options.keep.exists():
+        sys.exit(f"compare: {options.keep} is there from an earlier run: move it away")
     differ = 0
     with tempfile.TemporaryDirectory() as temporary:
         work = pathlib.Path(temporary)

@@ -5,9 +5,9 @@ use std::io::{self, Write};
 use crate::bus::{read_any, write_word, Bank, Image, Lock, Refusal, Shift, Span, Split};
 use crate::cpu::{Core, Event, RunTooLong, StepRefusal};
 use crate::dump::print_changes;
+use crate::setup::BANK_LENGTH;
 use crate::text::{hex_field, lines};
 
-const BANK_LENGTH: usize = 32_768;
 const IMAGE_LENGTH: usize = 4_096;
 const PORTS_LENGTH: usize = 64;
 
@@ -193,7 +193,7 @@ fn run(
     out: &mut impl Write,
 ) -> io::Result<()> {
     match core.run(board, count, levels) {
-        Err(RunTooLong) => writeln!(out, "run refused 6"),
+        Err(RunTooLong) => writeln!(out, "run refused {}", RunTooLong::NUMBER),
         Ok(report) => {
             write!(out, "run {} pc {:08X}", report.steps, core.pc)?;
             match report.refusal {

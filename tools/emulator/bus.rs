@@ -67,9 +67,9 @@ pub struct Span {
 impl Span {
     /// None where base or length is no multiple of 4, the length is 0, or the end is above 2^32.
     pub fn new(base: u32, length: u32) -> Option<Span> {
-        let even = base.is_multiple_of(4) && length.is_multiple_of(4) && length != 0;
-        let ends_in_time = u64::from(base) + u64::from(length) <= 1 << 32;
-        (even && ends_in_time).then_some(Span { base, length })
+        let is_aligned = base.is_multiple_of(4) && length.is_multiple_of(4);
+        let ends_in_range = u64::from(base) + u64::from(length) <= 1 << 32;
+        (is_aligned && length != 0 && ends_in_range).then_some(Span { base, length })
     }
 
     fn offset_of(self, address: u32) -> Option<u32> {

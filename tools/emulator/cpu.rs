@@ -46,6 +46,10 @@ pub struct RunReport {
 #[derive(Clone, Copy, Debug, PartialEq, Eq)]
 pub struct RunTooLong;
 
+impl RunTooLong {
+    pub const NUMBER: u32 = 6;
+}
+
 /// Why an instruction does not come to its end. Nothing of the core has been changed for it by then.
 pub enum Stop {
     Exception(Exception),

@@ -3,13 +3,13 @@
 use std::io::{self, Read, Write};
 
 use crate::bus::{write_word, Bank};
-use crate::cpu::{Core, RunReport, RESET_ADDRESS};
+use crate::cpu::{Core, RunReport, RunTooLong, RESET_ADDRESS};
 use crate::text::hex_field;
 
 /// No more of a text is read.
 pub const LONGEST_TEXT: u64 = 65_536;
 
-const BANK_LENGTH: usize = 32_768;
+pub const BANK_LENGTH: usize = 32_768;
 
 pub fn read_text(source: impl Read) -> io::Result<Vec<u8>> {
     let mut text = Vec::new();
@@ -76,7 +76,7 @@ pub enum Answer {
 }
 
 const NO_SUCH_REGISTER: Answer = Answer::Refused(3);
-const RUN_TOO_LONG: Answer = Answer::Refused(6);
+const RUN_TOO_LONG: Answer = Answer::Refused(RunTooLong::NUMBER);
 const NO_FORM: Answer = Answer::Refused(10);
 const WRONG_TIME: Answer = Answer::Refused(11);
 

@@ -113,9 +113,8 @@ impl Tlb {
 
     /// The first entry that fits, for translation.
     pub fn entry_for(&self, address: u32, address_space: u32) -> Option<&Entry> {
-        self.entries
-            .iter()
-            .find(|entry| entry.fits(address, address_space))
+        self.find(address, address_space)
+            .map(|index| &self.entries[index])
     }
 
     pub fn write(&mut self, index: usize, entry: Entry) {

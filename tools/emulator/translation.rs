@@ -63,14 +63,14 @@ fn by_tlb(
         return Err(Exception::at(Cause::TlbRefill, address));
     };
     let page = entry.page_of(address);
-    match objection(page, csr.privilege(), kind) {
+    match page_exception(page, csr.privilege(), kind) {
         Some(cause) => Err(Exception::at(cause, address)),
         None => Ok(entry.physical(page, address)),
     }
 }
 
 /// Why a page does not admit an access.
-fn objection(page: &Page, privilege: u32, kind: AccessKind) -> Option<Cause> {
+fn page_exception(page: &Page, privilege: u32, kind: AccessKind) -> Option<Cause> {
     if !page.valid {
         return Some(match kind {
             AccessKind::Fetch => Cause::FetchPageInvalid,

@@ -208,11 +208,6 @@ class Assembler:
             self._references.append(Reference(self.position, kind, label, (rd,), plus))
             self.word(0)
 
-    def address_word(self, label: str, plus: int = 0) -> None:
-        """Places a word that holds the address of a label."""
-        self._references.append(Reference(self.position, "word", label, (), plus))
-        self.word(0)
-
     def label(self, name: str) -> None:
         """Gives the present position a name."""
         if name in self.labels:
@@ -242,8 +237,6 @@ class Assembler:
         target = (self.labels[reference.label] + reference.plus) & WORD_MASK
         upper, lower = upper_and_lower(target)
         match reference.kind:
-            case "word":
-                return target
             case "upper":
                 return encode("lu12i.w", reference.operands[0], upper)
             case "lower":

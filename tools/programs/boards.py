@@ -139,12 +139,12 @@ class Levels:
     """How the levels of the hardware lines go on from run to run."""
 
     rng: Random
-    mode: str
+    change: bool
 
     def next(self) -> int:
         """The levels of the next run."""
         rng = self.rng
-        if self.mode == "none":
+        if not self.change:
             return 0
         bits = rng.choice((0, 0, 1, 0x80, 0xFF, 1 << rng.randrange(8), rng.getrandbits(8)))
         return bits | rng.choice((0, 0, 0, 0x100, 0xFFFFFF00, rng.getrandbits(32) & ~0xFF))
@@ -152,7 +152,7 @@ class Levels:
 
 def draw_levels(rng: Random) -> Levels:
     """Levels that stay 0 or change at random."""
-    return Levels(rng, rng.choice(("none", "random")))
+    return Levels(rng, rng.choice((False, True)))
 
 
 def read_line(rng: Random, address: int) -> str:

@@ -28,8 +28,6 @@ class Parts:
 
     folds: tuple[int, ...]
     interrupts: bool = True
-    fetches: bool = True
-    services: bool = True
     limit: int = 12
 
 
@@ -75,17 +73,14 @@ def emit_handler(b: Builder, label: str, parts: Parts) -> None:
     b.emit("csrrd", era, control.ERA)
     if parts.interrupts:
         b.asm.branch("beq", ecode, 0, to=interrupt)
-    if parts.fetches:
-        b.emit("csrrd", third, control.BADV)
-        b.asm.branch("beq", era, third, to=fetch)
+    b.emit("csrrd", third, control.BADV)
+    b.asm.branch("beq", era, third, to=fetch)
     b.emit("addi.w", era, era, 4)
     b.emit("csrwr", era, control.ERA)
-    if parts.services:
-        _emit_service(b, ecode, out)
+    _emit_service(b, ecode, out)
     b.asm.label(out)
     b.emit("ertn")
-    if parts.fetches:
-        _emit_fetch(b, fetch)
+    _emit_fetch(b, fetch)
     if parts.interrupts:
         _emit_interrupt(b, interrupt, parts.limit)
 

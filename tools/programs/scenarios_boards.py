@@ -321,7 +321,7 @@ def lines(rng: Random) -> bytes:
     _line_loop(b, enabled)
     program = b.finish(0, stops=False)
     text = boards.program_lines(program, board) + [line("g", rng.randint(6, 20), 0)]
-    text += _level_lines(rng, Levels(rng, "random"), rng.randint(15, 50))
+    text += _level_lines(rng, Levels(rng, change=True), rng.randint(15, 50))
     return "".join(board.lines(rng) + text).encode("ascii")
 
 
@@ -367,7 +367,7 @@ def refused_steps(rng: Random) -> bytes:
         b.stop()
     program = b.finish(0, stops=False)
     text = boards.program_lines(program, board) + [line("g", 40, 0)]
-    text += _level_lines(rng, Levels(rng, "random"), rng.randint(8, 25))
+    text += _level_lines(rng, Levels(rng, change=True), rng.randint(8, 25))
     return "".join(board.lines(rng) + text).encode("ascii")
 
 

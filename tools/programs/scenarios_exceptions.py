@@ -255,6 +255,16 @@ def exchange(b: Builder, number: int) -> None:
     b.fold_control(number)
 
 
+def masked_exchange(b: Builder, number: int) -> None:
+    """An exchange of a control register with a mask of some bits."""
+    rd, rj = b.some(2)
+    b.load(rd, control_value(b, number))
+    b.load(rj, b.rng.getrandbits(32))
+    b.emit("csrxchg", rd, rj, number)
+    b.fold(rd)
+    b.fold_control(number)
+
+
 def _mode_writes(b: Builder) -> None:
     """Writes of CRMD, with windows under which the program goes on in any mode."""
     rng = b.rng
@@ -273,9 +283,8 @@ def csr_masks(b: Builder) -> Program:
     handlers.install(b)
     numbers = [number for number in control.ALL if number not in (control.CRMD, control.EENTRY)]
     rng.shuffle(numbers)
-    for number in numbers[: rng.randint(4, 8)]:
-        for _ in range(rng.choice((1, 1, 2))):
-            exchange(b, number)
+    for number in numbers:
+        rng.choice((exchange, masked_exchange))(b, number)
     for _ in range(rng.randint(1, 4)):
         exchange(b, control.unknown_number(rng))
     if rng.random() < 0.3:
@@ -285,7 +294,7 @@ def csr_masks(b: Builder) -> Program:
         _mode_writes(b)
     for number in rng.sample(control.ALL, rng.randint(3, 8)):
         b.fold_control(number)
-    return b.finish(700)
+    return b.finish(1600)
 
 
 def _restore_entry(b: Builder) -> None:

@@ -332,7 +332,8 @@ def _conditional_store(b: Builder, base: int) -> None:
     b.fold(register)
     if register == base:
         b.move(base, keep)
-    b.emit("ld.w", register, base, offset) if register != base else None
+    if register != base:
+        b.emit("ld.w", register, base, offset)
     b.fold(register)
     b.fold_control(control.LLBCTL)
 

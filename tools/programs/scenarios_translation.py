@@ -288,11 +288,10 @@ def _fill_at_random(b: Builder, spaces: int) -> None:
         b.emit("csrwr", value, number)
     b.load(work, control.tlb_index(0, control.SMALL))
     b.load(value, control.tlb_index(0, control.SMALL ^ control.LARGE))
-    b.emit("srai.w", state, state, 0)
-    large = b.new_label("small")
-    b.asm.branch("bge", state, 0, to=large)
+    small = b.new_label("small")
+    b.asm.branch("bge", state, 0, to=small)
     b.emit("xor", work, work, value)
-    b.asm.label(large)
+    b.asm.label(small)
     b.emit("csrwr", work, control.TLBIDX)
     b.emit("tlbfill")
     b.emit("addi.w", left, left, -1)
@@ -425,19 +424,17 @@ def _barrier(b: Builder) -> None:
             b.emit("ibar", values.code_15(rng))
 
 
-def _cache_step(b: Builder, addresses: list[int]) -> None:
-    """A cacop of any code at one of some addresses, or a barrier."""
+def _cache_step(b: Builder, code: int, addresses: list[int]) -> None:
+    """A cacop at one of some addresses, and sometimes a barrier or a change of level."""
     rng = b.rng
+    base = b.free()
+    offset = values.signed_12(rng)
+    b.load(base, rng.choice(addresses) + rng.choice((0, 1, 2, 3, 0xFFF)) - offset)
+    b.emit("cacop", code, base, offset)
     draw = rng.random()
-    if draw < 0.65:
-        base = b.free()
-        offset = values.signed_12(rng)
-        b.load(base, rng.choice(addresses) + rng.choice((0, 1, 2, 3, 0xFFF)) - offset)
-        code = rng.choice((rng.randrange(32), rng.randrange(16, 24), 8, 9))
-        b.emit("cacop", code, base, offset)
-    elif draw < 0.9:
+    if draw < 0.3:
         _barrier(b)
-    else:
+    elif draw < 0.5:
         handlers.call_service(b, rng.choice((0, 3)))
 
 
@@ -446,14 +443,16 @@ def cacop_kinds(b: Builder) -> Program:
     rng = b.rng
     mapping.install_both(b)
     addresses = [*b.layout.absent, b.page()]
-    for _ in range(rng.randint(2, 6)):
-        _cache_step(b, addresses)
+    codes = list(range(32))
+    rng.shuffle(codes)
+    for code in codes[:16]:
+        _cache_step(b, code, addresses)
     handlers.call_service(b, 0)
     entries = random_entries(b, rng.randint(1, 3))
     mapping.map_all(b, entries)
     mapping.enter_mapped(b, user_window=True)
     b.write_control(control.ASID, entries[0].space)
     addresses += [_near_entry(b, entry) for entry in entries * 3]
-    for _ in range(rng.randint(4, 12)):
-        _cache_step(b, addresses)
-    return b.finish(1100)
+    for code in (*codes[16:], *rng.sample(range(16, 24), 4)):
+        _cache_step(b, code, addresses)
+    return b.finish(3000)
