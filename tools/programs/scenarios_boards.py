@@ -306,14 +306,20 @@ def _line_handler(b: Builder, label: str) -> None:
     b.emit("ertn")
 
 
-def lines(rng: Random) -> bytes:
-    """Hardware lines whose levels change between runs and single steps."""
+def _begun_with_line_handler(rng: Random) -> tuple[boards.Board, Builder]:
+    """A board, and a program on it that begins by setting the address of a handler of lines."""
     board, layout = boards.draw_board(rng)
     b = Builder(rng, layout)
     label = b.new_label("line")
     b.asm.load_address(b.roles.value, label)
     b.emit("csrwr", b.roles.value, control.EENTRY)
     b.later(lambda: _line_handler(b, label))
+    return board, b
+
+
+def lines(rng: Random) -> bytes:
+    """Hardware lines whose levels change between runs and single steps."""
+    board, b = _begun_with_line_handler(rng)
     enabled = rng.choice((0x3FC, 0x004, 0x200, 1 << rng.randrange(2, 10), 0x1FFF, 0))
     b.write_control(control.ECFG, enabled)
     if rng.random() < 0.7:
@@ -344,12 +350,7 @@ def _level_lines(rng: Random, levels: Levels, count: int) -> list[str]:
 
 def refused_steps(rng: Random) -> bytes:
     """A core that waits before an absent word, or stays at a refused access."""
-    board, layout = boards.draw_board(rng)
-    b = Builder(rng, layout)
-    label = b.new_label("line")
-    b.asm.load_address(b.roles.value, label)
-    b.emit("csrwr", b.roles.value, control.EENTRY)
-    b.later(lambda: _line_handler(b, label))
+    board, b = _begun_with_line_handler(rng)
     b.write_control(control.ECFG, rng.choice((0x3FC, 0x004, 0xBFC)))
     if rng.random() < 0.5:
         periodic = rng.random() < 0.5

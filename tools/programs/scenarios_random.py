@@ -129,29 +129,29 @@ def _exception(b: Builder, pointers: list[int]) -> None:
             b.emit("syscall", values.code_15(rng))
 
 
-def _wait(b: Builder, pointers: list[int]) -> None:
-    """A wait for a software interrupt that is due, or for the timer."""
+def _bring_about(b: Builder, enabled: int, latest: int, periodic: float) -> None:
+    """A software interrupt at once, with those enabled, or the timer's some steps later."""
     rng = b.rng
     handlers.call_service(b, 0)
     if rng.random() < 0.5:
-        b.write_control(control.ECFG, 3)
+        b.write_control(control.ECFG, enabled)
         b.write_control(control.ESTAT, rng.choice((1, 2, 3)))
     else:
         b.write_control(control.ECFG, 0x800)
-        scenarios_interrupts.write_timer(b, rng.randint(1, 9), False)
+        left = rng.randint(1, latest)
+        scenarios_interrupts.write_timer(b, left, periodic > 0 and rng.random() < periodic)
+
+
+def _wait(b: Builder, pointers: list[int]) -> None:
+    """A wait for a software interrupt that is due, or for the timer."""
+    _bring_about(b, enabled=3, latest=9, periodic=0)
     b.emit("idle", 0)
 
 
 def _interrupt(b: Builder, pointers: list[int]) -> None:
     """An interrupt at once, or the timer's a little later."""
     rng = b.rng
-    handlers.call_service(b, 0)
-    if rng.random() < 0.5:
-        b.write_control(control.ECFG, 0x803)
-        b.write_control(control.ESTAT, rng.choice((1, 2, 3)))
-    else:
-        b.write_control(control.ECFG, 0x800)
-        scenarios_interrupts.write_timer(b, rng.randint(1, 30), rng.random() < 0.2)
+    _bring_about(b, enabled=0x803, latest=30, periodic=0.2)
     if rng.random() < 0.5:
         b.exchange_control(control.CRMD, 4, 4)
     else:
