@@ -39,6 +39,11 @@ pub one_more : (p q : Progress) (lines : List (List ℕ)) (line : List ℕ) (lef
 one_more p q lines line left so_far =
     (so_far.0 ++ (line ∷ []), append_assoc so_far.0 (line ∷ []) left ∙ so_far.1, ap (λ r. (read_line r line).after) so_far.2 ∙ sym (after_more p so_far.0 line))
 
+-- the lines behind one that was read lead where it and they do
+pub led_on : (p whole : Progress) (lines : List (List ℕ)) (line : List ℕ) (left : List (List ℕ)) (h : Handled) → h ≡ read_line p line → lines ≡ line ∷ left
+    → after_lines p lines ≡ whole → after_lines h.after left ≡ whole
+led_on p whole lines line left h read begins so_far = ap (λ r. after_lines r.after left) read ∙ sym (ap (after_lines p) begins) ∙ so_far
+
 -- where printing fails behind a line
 pub stopped : {T E : Type 0} (r : Result T E) (p q : Progress) (lines : List (List ℕ)) (line : List ℕ) (left : List (List ℕ)) → SomeLeft p lines q (line ∷ left) → OnErr r (LeftAt p lines (read_line q line).after)
 stopped (Ok x) p q lines line left so_far = tt

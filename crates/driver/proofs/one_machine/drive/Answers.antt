@@ -1,40 +1,34 @@
-use Rattle.std.proofs.Common.{◌≡◌, ◌+◌, drop, sym, subst, ◌∙◌, arith}
-use Rattle.std.proofs.lemmas.Grind.{common_steps}
-use Rattle.std.proofs.lemmas.List.{drop_more}
-use Rattle.machine.specs.Outcomes.{Outcome, outcome}
-use Rattle.driver.specs.declared.call.Call.TheVariants.{Reset}
-use Rattle.driver.specs.declared.call.Answer.{Answer}
-use Rattle.driver.specs.Calls.{drive_of, AllFetchNothing}
+use Rattle.std.proofs.Common.{refl, arith}
 use Rattle.driver.proofs.Driving.{all_confined, drive_isolated}
+use Rattle.driver.proofs.SoFar.{none_made, one_made, all_made}
 use Rattle.driver.proofs.one_machine.drive.Goals as goal
 
 pub returns-in_err-answers-clause-confined : goal.returns-in_err-answers-clause-confined
 returns-in_err-answers-clause-confined g c = all_confined c.args.calls.now c.args.core.now (g.B.Bus.byte c.args.bus.now)
 
+pub loop-call-init : goal.loop-call-init
+loop-call-init g c = (
+  none_made g.B.Bus.byte g.B.Bus.layout c.args.calls.now c.args.core.now c.args.bus.now c.in_ok-answers.answers.items c.args.core.now c.in_ok-answers.ensures.items refl,
+  omega (arith, c.in_ok-answers.ensures.len),
+  omega (arith, c.in_ok-answers.ensures.capacity),
+)
+
+pub loop-call-preserved : goal.loop-call-preserved
+loop-call-preserved g c =
+    let before = c.loop-call in
+    let made = c.perform-answer in (
+      one_made g.B.Bus.byte g.B.Bus.layout c.args.calls.now c.args.core.now c.args.bus.now before.call-index before.answers.items c.push_reserved.new.self.items before.core made.new.core before.bus made.new.bus made.result
+          c.loop-call-test.true before.invariant.0 made.ensures.value made.ensures.kept made.ensures.untouched c.push_reserved.ensures.items,
+      omega arith,
+      omega arith,
+    )
+
+pub returns-clause-value : goal.returns-clause-value
+returns-clause-value g c =
+    all_made g.B.Bus.byte g.B.Bus.layout c.args.calls.now c.args.core.now c.args.bus.now c.loop-call.call-index c.loop-call.answers.items c.loop-call.core c.loop-call.bus c.loop-call-test.false c.loop-call.invariant.0
+
 pub returns-clause-isolated : goal.returns-clause-isolated
-returns-clause-isolated g c =
-    let m = g.B.Bus.byte c.args.bus.now in
-    let is : outcome c.loop-call.answers.items c.loop-call.core (g.B.Bus.byte c.loop-call.bus) ≡ drive_of c.args.core.now m c.args.calls.now
-    = grind (arith, common_steps) in
-    drive_isolated c.args.calls.now c.args.core.now m _ is
+returns-clause-isolated g c = drive_isolated c.args.calls.now c.args.core.now (g.B.Bus.byte c.args.bus.now) _ (returns-clause-value g c)
 
 pub returns-clause-confined : goal.returns-clause-confined
 returns-clause-confined g c = all_confined c.args.calls.now c.args.core.now (g.B.Bus.byte c.args.bus.now)
-
-pub loop-call-preserved : goal.loop-call-preserved
-loop-call-preserved g c = (
-  grind (arith, common_steps),
-  grind (arith, common_steps),
-  grind (arith, common_steps),
-  grind (arith, common_steps),
-  grind (arith, common_steps),
-  grind (arith, common_steps),
-  λ none.
-      let so_far = c.loop-call.invariant.6 none in
-      let calls = c.args.calls.now in
-      let m = g.B.Bus.byte c.loop-call.bus in
-      let next = subst (λ left. AllFetchNothing left c.loop-call.core m) (drop_more calls c.loop-call.call-index Reset c.loop-call-test.true) so_far.1 in (
-        c.perform-answer.ensures.untouched next.0 ∙ so_far.0,
-        subst (λ (o : Outcome Answer). AllFetchNothing (drop (c.loop-call.call-index + 1) calls) o.state o.memory) (sym c.perform-answer.ensures.value) next.1,
-      ),
-)

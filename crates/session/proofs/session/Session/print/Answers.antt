@@ -4,7 +4,7 @@ use Rattle.std.specs.Io.KnownBytes.{Appends, append_known}
 use Rattle.setup.specs.Text.{lines_of}
 use Rattle.session.specs.Listings.{contents, told}
 use Rattle.session.specs.Sessions.{Progress, handled, progress, read_line, line_told, lines_told, after_lines, LeftAt}
-use Rattle.session.proofs.Printing.{begun, read_with_room, printed, SomeLeft, one_more, stopped}
+use Rattle.session.proofs.Printing.{begun, read_with_room, printed, SomeLeft, one_more, led_on, stopped}
 use Rattle.session.proofs.session.Session.print.Goals as goal
 
 pub loop-line-preserved : goal.loop-line-preserved
@@ -22,7 +22,7 @@ loop-line-preserved g c =
           (printed out (g.W.Write.contents c.loop-line.out) (g.W.Write.contents c.write_all.new.self) (line_told (read_line p c.in-Some.line.now)) (lines_told (read_line p c.in-Some.line.now).after more) (lines_told start all)
           (subst (λ lines. Appends out (append_known (g.W.Write.contents c.loop-line.out) (lines_told p lines)) (lines_told start all)) c.in-Some.ensures.line c.loop-line.invariant.0)
           (subst (Appends (g.W.Write.contents c.loop-line.out) (g.W.Write.contents c.write_all.new.self)) text c.in_ok-write_all.ensures.bytes)),
-      ap (λ h. after_lines h.after more) read ∙ ap (after_lines p) (sym c.in-Some.ensures.line) ∙ c.loop-line.invariant.1,
+      led_on p (after_lines start all) (lines_of c.loop-line.rest.now) c.in-Some.line.now more (handled c.handle.result (progress g.B.Bus.byte c.handle.new.self)) read c.in-Some.ensures.line c.loop-line.invariant.1,
       subst (λ h. SomeLeft start all h.after more) (sym read) (one_more start p all c.in-Some.line.now more (subst (SomeLeft start all p) c.in-Some.ensures.line c.loop-line.invariant.2)),
       c.handle.ensures.kept ∙ c.loop-line.invariant.3,
     )
