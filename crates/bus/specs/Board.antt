@@ -43,3 +43,11 @@ offset_where (Err e) o = None
 -- how far a lies behind b, if a part of n bytes from b on has it
 abbrev pub offset_in : ℕ → ℕ → ℕ → Option ℕ
 offset_in b n a = offset_where (range_check b n) (cond (within b n a) (Some (a - b)) None)
+
+abbrev pub length_where : Result (Unit {0}) BoardRefusal → ℕ → ℕ
+length_where (Ok _) n = n
+length_where (Err e) n = 0
+
+-- how many of n bytes from b on a part has: all, or none
+abbrev pub accepted_length : ℕ → ℕ → ℕ
+accepted_length b n = length_where (range_check b n) n

@@ -4,6 +4,7 @@ ghost use Rattle.bus.specs.Board.{range_check, border_check, offset_in};
 ghost use Rattle.bus.specs.Text.{span_text};
 
 use crate::address::PhysAddr;
+use crate::reach::Reach;
 use crate::refusal::BoardRefusal;
 use std::fmt;
 
@@ -41,10 +42,7 @@ impl Span {
     pub fn offset_of(self, at: PhysAddr) -> Option<u32>
         ensures { result ≡ offset_in self.base.0 self.length at.0 }
     {
-        self.check().ok()?;
-        // An address below the base wraps to a number that no accepted length reaches.
-        let offset = at.0.wrapping_sub(self.base.0);
-        (u64::from(offset) < self.length).then_some(offset)
+        Reach::new(self).offset_of(at)
     }
 }
 

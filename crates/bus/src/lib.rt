@@ -8,12 +8,14 @@ ghost use Rattle.bus.specs.Memory.{Memory, Sound, read_of, write_of, answer_of, 
 pub mod access;
 pub mod address;
 pub mod board;
+pub mod reach;
 pub mod reference;
 pub mod refusal;
 
 pub use access::{Access, Width};
 pub use address::PhysAddr;
 pub use board::{Span, check_border};
+pub use reach::Reach;
 pub use refusal::{BoardRefusal, Refusal};
 
 pub trait Bus {

@@ -102,6 +102,15 @@ module _ (m f : Memory) (named : Refusal → Refusal) where
             ∙ sym (ap (seen named up) (cond-false (aligned k w) _ _ (sym fits_alike ∙ e)))
 
 -- A layer that keeps the addresses and shows each cell c of f at x as t x c: an access to cells that it shows as they are is one to f.
+module _ (t : ℕ → Cell → Cell) (f : Memory) (a w : ℕ) (as_is : aligned a w ≡ true → (x : ℕ) → within a w x ≡ true → (c : Cell) → t x c ≡ c) where
+  shown : aligned a w ≡ true → AllShown (λ x. t x (f x)) f (λ e. e) a a w
+  shown fit j l =
+      let named : within a w (a + j) ≡ true = grind (arith, nat_tests) in
+      record { cell = as_is fit (a + j) named (f (a + j)); missing = refl; kept = refl }
+
+  pub read_over : (r : Result ℕ Refusal) → r ≡ read_of f a w → r ≡ read_of (λ x. t x (f x)) a w
+  read_over r told = told ∙ sym (read_seen (λ x. t x (f x)) f (λ e. e) a a w refl refl shown ∙ seen_same (read_of f a w))
+
 module _ (t : ℕ → Cell → Cell) (f : Memory) (a w v : ℕ) (as_is : aligned a w ≡ true → (x : ℕ) → within a w x ≡ true → (c : Cell) → t x c ≡ c) where
   abbrev pub over : Memory → Memory
   over g x = t x (g x)
@@ -113,13 +122,8 @@ module _ (t : ℕ → Cell → Cell) (f : Memory) (a w v : ℕ) (as_is : aligned
       go x true e = as_is fit x e (put f a w v x) ∙ cond-true (within a w x) _ _ e ∙ sym (cond-true (within a w x) _ _ e)
       go x false e = ap (t x) (cond-false (within a w x) _ _ e) ∙ sym (cond-false (within a w x) _ _ e)
 
-  shown : aligned a w ≡ true → AllShown (over f) f (λ e. e) a a w
-  shown fit j l =
-      let named : within a w (a + j) ≡ true = grind (arith, nat_tests) in
-      record { cell = as_is fit (a + j) named (f (a + j)); missing = refl; kept = refl }
-
   write_over : write_of (over f) a w v ≡ seen (λ e. e) over (write_of f a w v)
-  write_over = write_seen (over f) f (λ e. e) a a w refl refl shown over v puts
+  write_over = write_seen (over f) f (λ e. e) a a w refl refl (shown t f a w as_is) over v puts
 
   pub written_over : (r : Result (Unit {0}) Refusal) (n : Memory) → Written f a w v r n → Written (over f) a w v r (over n)
   written_over r n h = record {

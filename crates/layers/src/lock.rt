@@ -4,12 +4,12 @@ ghost use Rattle.bus.specs.Layout.{number, cells, hidden_cells};
 ghost use Rattle.layers.specs.Layers.{lock_cells, shown_unlocked};
 ghost use Rattle.layers.specs.Soundness.{lock_sound};
 
-use bus::{Access, Bus, Refusal, Span};
+use bus::{Access, Bus, Reach, Refusal, Span};
 
 // The inner bus, whose open bytes in the span are fixed.
 #[derive(Drop)]
 pub struct Lock<B> {
-    span: Span,
+    span: Reach,
     inner: B,
 }
 
@@ -19,7 +19,10 @@ impl<B: Bus> Lock<B> {
         ensures span { result.span ≡ span }
         ensures inner { result.inner ≡ inner }
     {
-        Lock { span, inner }
+        Lock {
+            span: Reach::new(span),
+            inner,
+        }
     }
 }
 
@@ -30,12 +33,14 @@ impl<B: Bus> Bus for Lock<B> {
 
     ghost layout = { λ s. number s.span.base.0 ∷ number s.span.length ∷ cells (hidden_cells (shown_unlocked s.span.base.0 s.span.length) (B.byte s.inner)) ∷ B.layout s.inner };
 
+    #[inline(always)]
     fn read(&mut self, access: Access) -> Result<u32, Refusal> {
         self.span.check().map_err(|_| access.missing())?;
         self.inner.read(access)
     }
 
     // Inside the span a write is refused as a read is, and where a read is answered, as fixed.
+    #[inline(always)]
     fn write(&mut self, access: Access, value: u32) -> Result<(), Refusal> {
         self.span.check().map_err(|_| access.missing())?;
         if self.span.offset_of(access.at).is_none() {

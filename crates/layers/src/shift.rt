@@ -6,12 +6,12 @@ ghost use Rattle.bus.specs.Memory.{read_of};
 ghost use Rattle.layers.specs.Layers.{shift_cells, moved_by, shown_shifted};
 ghost use Rattle.layers.specs.Soundness.{shift_sound};
 
-use bus::{Access, Bus, PhysAddr, Refusal, Span};
+use bus::{Access, Bus, PhysAddr, Reach, Refusal, Span};
 
 // The inner bus, from its address 0 on, seen in the span.
 #[derive(Drop)]
 pub struct Shift<B> {
-    span: Span,
+    span: Reach,
     inner: B,
 }
 
@@ -21,10 +21,14 @@ impl<B: Bus> Shift<B> {
         ensures span { result.span ≡ span }
         ensures inner { result.inner ≡ inner }
     {
-        Shift { span, inner }
+        Shift {
+            span: Reach::new(span),
+            inner,
+        }
     }
 
     // The access as the inner bus takes it; outside the span there is nothing to take it.
+    #[inline(always)]
     fn lowered(&self, access: Access) -> Result<Access, Refusal>
         ensures { MatchResult result (λ inner. (Some inner.at.0 ≡ offset_in self.now.span.base.0 self.now.span.length access.at.0) × (inner.width ≡ access.width)) (λ e. (None ≡ offset_in self.now.span.base.0 self.now.span.length access.at.0) × (Err e ≡ read_of nothing access.at.0 access.width)) }
     {
@@ -57,17 +61,19 @@ impl<B: Bus> Bus for Shift<B> {
 
     ghost layout = { λ s. number s.span.base.0 ∷ number s.span.length ∷ cells (hidden_cells (shown_shifted s.span.base.0 s.span.length) (B.byte s.inner)) ∷ B.layout s.inner };
 
+    #[inline(always)]
     fn read(&mut self, access: Access) -> Result<u32, Refusal> {
         let inner = self.lowered(access)?;
         self.inner
             .read(inner)
-            .map_err(|refusal| moved(self.span.base, refusal))
+            .map_err(|refusal| moved(self.span.base(), refusal))
     }
 
+    #[inline(always)]
     fn write(&mut self, access: Access, value: u32) -> Result<(), Refusal> {
         let inner = self.lowered(access)?;
         self.inner
             .write(inner, value)
-            .map_err(|refusal| moved(self.span.base, refusal))
+            .map_err(|refusal| moved(self.span.base(), refusal))
     }
 }

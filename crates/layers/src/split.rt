@@ -32,6 +32,7 @@ impl<L: Bus, R: Bus> Bus for Split<L, R> {
 
     ghost layout = { λ s. number s.border.0 ∷ cells (hidden_cells (shown_low s.border.0) (L.byte s.low)) ∷ cells (hidden_cells (shown_high s.border.0) (R.byte s.high)) ∷ (L.layout s.low ++ R.layout s.high) };
 
+    #[inline(always)]
     fn read(&mut self, access: Access) -> Result<u32, Refusal> {
         check_border(self.border).map_err(|_| access.missing())?;
         if access.at.0 < self.border.0 {
@@ -41,6 +42,7 @@ impl<L: Bus, R: Bus> Bus for Split<L, R> {
         }
     }
 
+    #[inline(always)]
     fn write(&mut self, access: Access, value: u32) -> Result<(), Refusal> {
         check_border(self.border).map_err(|_| access.missing())?;
         if access.at.0 < self.border.0 {

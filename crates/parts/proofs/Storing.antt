@@ -1,13 +1,36 @@
 -- What a write to a part over a list leaves.
-use Rattle.std.proofs.Common.{◌≡◌, ℕ, ◌+◌, ◌-◌, ◌%◌, ◌<◌, ◌≤◌, Bool, true, false, cond, List, length, get_or, Some, Ok, sym, refl, ap, ◌∙◌, ⊎_elim, arith}
+use Rattle.std.proofs.Common.{◌≡◌, ℕ, zero, suc, ◌+◌, ◌-◌, ◌%◌, ◌<◌, ◌≤◌, Bool, true, false, cond, List, length, get_or, Some, None, Ok, Err, Result, sym, refl, ap, ◌∙◌, ⊎_elim, arith}
 use mathlib.Core.Path.{fun_ext}
 use Rattle.std.proofs.lemmas.Bool.Decides.{nat_tests}
 use Rattle.std.proofs.lemmas.Bool.{cond-true, cond-false, cases_Bool}
-use Rattle.bus.specs.Cell.{absent, writable}
-use Rattle.bus.specs.Memory.{aligned, within, byte_of, write_of, put}
-use Rattle.bus.specs.Board.{range_check, where_accepted, cells_from, offset_in}
+use Rattle.bus.specs.declared.refusal.BoardRefusal.{BoardRefusal}
+use Rattle.bus.specs.declared.refusal.Refusal.TheVariants.{Absent}
+use Rattle.bus.specs.Cell.{Cell, absent, writable}
+use Rattle.bus.specs.Memory.{Memory, address, aligned, within, is_absent, byte_of, write_of, put}
+use Rattle.bus.specs.Board.{range_check, where_accepted, offset_where, cells_from, part_cells, offset_in}
 use Rattle.bus.proofs.Accesses.{within_bounds, stays_inside, write_writable, Found, offset_found, part_is, Written, written_by, written_same}
-use Rattle.parts.specs.Parts.{byte_cell, bank_cells}
+use Rattle.parts.specs.Parts.{byte_cell, bank_cells, hidden_where, hidden_bytes}
+
+-- a part has nothing at an address without an offset into it
+absent_part : (b n : ℕ) (f : ℕ → Cell) (a : ℕ) → None ≡ offset_in b n a → part_cells b n f a ≡ absent
+absent_part b n f a outside = by_range (range_check b n) outside
+  where
+    by_place : (t : Bool) → None ≡ cond t (Some (a - b)) None → cond t (f (a - b)) absent ≡ absent
+    by_place true q = cc
+    by_place false q = refl
+
+    by_range : (r : Result (Unit {0}) BoardRefusal) → None ≡ offset_where r (cond (within b n a) (Some (a - b)) None) → where_accepted r (cells_from b n f) a ≡ absent
+    by_range (Ok _) q = by_place (within b n a) q
+    by_range (Err e) q = refl
+
+-- an aligned write is refused at its first byte, if that is absent
+absent_written : (m : Memory) (a w v : ℕ) → aligned a w ≡ true → m a ≡ absent → Written m a w v (Err (Absent (address a))) m
+absent_written m a zero v fit gone = absurd cc
+absent_written m a (suc w) v fit gone = written_by m m a (suc w) v (Err (Absent (address a))) (cond-true _ _ _ fit ∙ cond-true _ _ _ (ap is_absent gone)) refl
+
+-- an aligned write that begins outside a bank
+pub outside_written : (b : ℕ) (xs : List ℕ) (a w v : ℕ) → aligned a w ≡ true → None ≡ offset_in b (length xs) a → Written (bank_cells b xs) a w v (Err (Absent (address a))) (bank_cells b xs)
+outside_written b xs a w v fit outside = absent_written (bank_cells b xs) a w v fit (absent_part b (length xs) (byte_cell writable xs) a outside)
 
 -- n cells from b on, of the list xs, and an access that begins in them
 module _ (b n : ℕ) (xs ys : List ℕ) (a w v i : ℕ) (place : Found b n a i) (fit : aligned a w ≡ true)
@@ -61,3 +84,6 @@ module _ (b : ℕ) (xs ys : List ℕ) (a w v i : ℕ) (fit : aligned a w ≡ tru
       (sym (part_is b (length xs) (byte_cell writable xs) place.range.checked))
       (ap (λ n. where_accepted (range_check b n) (cells_from b n (byte_cell writable ys))) as_long ∙ part_is b (length xs) (byte_cell writable ys) place.range.checked)
       (cells_written b (length xs) xs ys a w v i place fit stored)
+
+  pub bank_hidden : hidden_bytes b ys ≡ hidden_bytes b xs
+  bank_hidden = ap (λ n. hidden_where (range_check b n) ys) as_long ∙ ap (λ r. hidden_where r ys) place.range.checked ∙ sym (ap (λ r. hidden_where r xs) place.range.checked)

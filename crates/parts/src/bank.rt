@@ -1,17 +1,21 @@
 // Memory that can be read and written, lent by the caller.
-ghost use Rattle.std.specs.Prelude.{◌≡◌, [], ◌∷◌};
+ghost use Rattle.std.specs.Prelude.{◌≡◌, [], ◌∷◌, length};
 ghost use Rattle.bus.specs.Layout.{number, bytes};
 ghost use Rattle.parts.specs.Parts.{bank_cells, hidden_bytes};
 ghost use Rattle.parts.specs.Soundness.{bank_sound};
 
 use crate::lent;
-use bus::{Access, Bus, PhysAddr, Refusal};
+use bus::{Access, Bus, PhysAddr, Reach, Refusal};
 
 // The caller's memory, from a base on, open.
 #[derive(Drop)]
 pub struct Bank<'a> {
     base: PhysAddr,
     memory: &'a mut [u8],
+    // Of the base and as many bytes.
+    reach: Reach,
+    ghost starts: { reach.base ≡ base },
+    ghost spans: { reach.length ≡ length memory.now },
 }
 
 impl<'a> Bank<'a> {
@@ -21,7 +25,12 @@ impl<'a> Bank<'a> {
         ensures memory { result.memory.now ≡ memory.old }
         ensures lender { result.memory.ghost_name ≡ memory.entry.ghost_name }
     {
-        Bank { base, memory }
+        let reach = lent::reach(base, memory);
+        Bank {
+            base,
+            memory,
+            reach,
+        }
     }
 }
 
@@ -34,10 +43,10 @@ impl Bus for Bank<'_> {
 
     fn read(&mut self, access: Access) -> Result<u32, Refusal> {
         // Lent as `&mut`, since a shared loan out of `&mut self` would leave the bytes unknown to the proof.
-        lent::read(self.base, &mut *self.memory, access)
+        lent::read(&self.reach, &mut *self.memory, access)
     }
 
     fn write(&mut self, access: Access, value: u32) -> Result<(), Refusal> {
-        lent::write(self.base, self.memory, access, value)
+        lent::write(&self.reach, self.memory, access, value)
     }
 }

@@ -1,17 +1,21 @@
 // Memory that can only be read, lent by the caller.
-ghost use Rattle.std.specs.Prelude.{◌≡◌, [], ◌∷◌};
+ghost use Rattle.std.specs.Prelude.{◌≡◌, [], ◌∷◌, length};
 ghost use Rattle.bus.specs.Layout.{number};
 ghost use Rattle.parts.specs.Parts.{image_cells};
 ghost use Rattle.parts.specs.Soundness.{image_sound};
 
 use crate::lent;
-use bus::{Access, Bus, PhysAddr, Refusal};
+use bus::{Access, Bus, PhysAddr, Reach, Refusal};
 
 // The caller's memory, from a base on, fixed.
 #[derive(Drop)]
 pub struct Image<'a> {
     base: PhysAddr,
     memory: &'a [u8],
+    // Of the base and as many bytes.
+    reach: Reach,
+    ghost starts: { reach.base ≡ base },
+    ghost spans: { reach.length ≡ length memory.now },
 }
 
 impl<'a> Image<'a> {
@@ -20,7 +24,12 @@ impl<'a> Image<'a> {
         ensures base { result.base ≡ base }
         ensures memory { result.memory.now ≡ memory.now }
     {
-        Image { base, memory }
+        let reach = lent::reach(base, memory);
+        Image {
+            base,
+            memory,
+            reach,
+        }
     }
 }
 
@@ -32,12 +41,12 @@ impl Bus for Image<'_> {
     ghost layout = { λ s. number s.base.0 ∷ [] };
 
     fn read(&mut self, access: Access) -> Result<u32, Refusal> {
-        lent::read(self.base, self.memory, access)
+        lent::read(&self.reach, self.memory, access)
     }
 
     // A write is refused as a read is, and where a read is answered, as fixed.
     fn write(&mut self, access: Access, _value: u32) -> Result<(), Refusal> {
-        lent::read(self.base, self.memory, access)?;
+        lent::read(&self.reach, self.memory, access)?;
         Err(Refusal::Fixed(access.at))
     }
 }

@@ -1,11 +1,11 @@
 // A port block: a few bytes of its own.
-ghost use Rattle.std.specs.Prelude.{◌≡◌, [], ◌∷◌};
+ghost use Rattle.std.specs.Prelude.{◌≡◌, [], ◌∷◌, length};
 ghost use Rattle.bus.specs.Layout.{number};
 ghost use Rattle.parts.specs.Parts.{bank_cells, port_cells};
 ghost use Rattle.parts.specs.Soundness.{bank_sound};
 
 use crate::lent;
-use bus::{Access, Bus, PhysAddr, Refusal};
+use bus::{Access, Bus, PhysAddr, Reach, Refusal};
 
 const PORT_BYTES: usize = 64;
 
@@ -14,6 +14,10 @@ const PORT_BYTES: usize = 64;
 pub struct Ports {
     base: PhysAddr,
     cells: [u8; PORT_BYTES],
+    // Of the base and as many bytes.
+    reach: Reach,
+    ghost starts: { reach.base ≡ base },
+    ghost spans: { reach.length ≡ length cells },
 }
 
 impl Ports {
@@ -21,9 +25,11 @@ impl Ports {
         ensures cells { bank_cells result.base.0 result.cells ≡ port_cells base.0 }
         ensures base { result.base ≡ base }
     {
+        let cells = [0; PORT_BYTES];
         Ports {
             base,
-            cells: [0; PORT_BYTES],
+            reach: lent::reach(base, &cells),
+            cells,
         }
     }
 }
@@ -36,10 +42,10 @@ impl Bus for Ports {
     ghost layout = { λ s. number s.base.0 ∷ [] };
 
     fn read(&mut self, access: Access) -> Result<u32, Refusal> {
-        lent::read(self.base, &self.cells, access)
+        lent::read(&self.reach, &self.cells, access)
     }
 
     fn write(&mut self, access: Access, value: u32) -> Result<(), Refusal> {
-        lent::write(self.base, &mut self.cells, access, value)
+        lent::write(&self.reach, &mut self.cells, access, value)
     }
 }
