@@ -23,7 +23,7 @@ impl<const LEAST: u32> RegFrom<LEAST> {
     {
         RegFrom {
             reg: Reg {
-                index: (number % 32).max(LEAST) as u8,
+                index: (number % 32).max(LEAST),
             },
         }
     }

@@ -3,7 +3,7 @@ ghost use Rattle.std.specs.Prelude.{◌≡◌, ◌%◌, ◌<◌};
 
 #[derive(Clone, Copy, PartialEq, Eq, Debug)]
 pub struct Reg {
-    pub(crate) index: u8,
+    pub(crate) index: u32,
     ghost fits: { index < 32 },
 }
 
@@ -12,15 +12,13 @@ impl Reg {
         ensures within { result < 32 }
         ensures value { result ≡ self.index }
     {
-        usize::from(self.index)
+        self.index as usize
     }
 
     // Of a number's lowest five bits.
     pub fn of_low_bits(number: u32) -> Reg
         ensures { result.index ≡ number % 32 }
     {
-        Reg {
-            index: (number % 32) as u8,
-        }
+        Reg { index: number % 32 }
     }
 }

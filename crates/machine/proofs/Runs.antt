@@ -9,6 +9,7 @@ use Rattle.machine.specs.Isolation.{FetchesNothing}
 use Rattle.machine.specs.Laws.{RunPerforms, first, later, NoStepFetches}
 use Rattle.machine.specs.Outcomes.{Outcome, StepAnswer, outcome}
 use Rattle.machine.specs.Step.{step, ran_on, run_of}
+use Rattle.machine.specs.Steps.{Single}
 
 -- a run of which k steps were made before
 abbrev pub further : ℕ → Outcome RunReport → Outcome RunReport
@@ -56,3 +57,12 @@ later_unfetched count k levels s t m n e l is none u q performs =
     let accepted : (step s levels m).answer ≡ Ok e = sym (ap (λ (o : Outcome StepAnswer). o.answer) is) in
     none u q (subst (λ j. RunPerforms levels j s m u q) one_more
     (later e accepted (subst (λ (o : Outcome StepAnswer). RunPerforms levels left o.state o.memory u q) is performs)))
+
+-- the first step of a loop, before which neither the state nor the bus has changed
+pub alone : {B : Type 0} (byte : B → Memory) (levels : ℕ) (s0 s t : State) (b0 b n : B) (a : StepAnswer) → (s ≡ s0) × (b ≡ b0)
+    → outcome a t (byte n) ≡ step s levels (byte b) → (FetchesNothing s levels → n ≡ b)
+    → Single s0 levels (byte b0) (outcome a t (byte n)) (n ≡ b0)
+alone byte levels s0 s t b0 b n a start is untouched = record {
+  value = is ∙ ap (λ x. step x levels (byte b)) start.0 ∙ ap (λ x. step s0 levels (byte x)) start.1;
+  untouched = λ nothing. untouched (subst (λ x. FetchesNothing x levels) (sym start.0) nothing) ∙ start.1;
+}

@@ -1,17 +1,27 @@
 -- One step, as its parts leave it.
-use Rattle.std.proofs.Common.{◌≡◌, ℕ, Bool, true, false, Some, Ok, Err, refl, sym, ap, subst, ◌∙◌}
-use Rattle.bus.specs.Memory.{Memory}
+use Rattle.std.proofs.Common.{◌≡◌, ℕ, Bool, true, false, Some, Ok, Err, Result, refl, sym, ap, subst, ◌∙◌}
+use Rattle.bus.specs.declared.address.PhysAddr.{PhysAddr}
+use Rattle.bus.specs.declared.refusal.Refusal.{Refusal}
+use Rattle.bus.specs.Memory.{Memory, write_of, answer_of, memory_after}
 use Rattle.isa.specs.declared.instruction.Instruction.{Instruction}
+use Rattle.isa.specs.declared.instruction.StoreOp.{StoreOp}
 use Rattle.isa.specs.Decoding.{decode_of}
+use Rattle.operations.specs.Operations.{store_width}
+use Rattle.pages.specs.declared.access_kind.AccessKind.TheVariants as kind
+use Rattle.pages.specs.declared.address.VirtAddr.{VirtAddr}
 use Rattle.csr.specs.Interrupts.{due}
 use Rattle.control.specs.declared.registers.Registers.{Registers}
 use Rattle.control.specs.Exceptions.{with_levels, interrupted, beaten}
 use Rattle.actions.specs.declared.action.Action.{Action}
+use Rattle.actions.specs.declared.action.Action.TheVariants.{Store}
 use Rattle.actions.specs.Plan.{plan}
 use Rattle.machine.specs.declared.answers.Event.{Event}
 use Rattle.machine.specs.declared.answers.StepRefusal.{StepRefusal}
 use Rattle.machine.specs.declared.state.State.{State}
-use Rattle.machine.specs.Outcomes.{Outcome, outcome, StepAnswer}
+use Rattle.machine.specs.State.{advanced}
+use Rattle.machine.specs.Access.{locate}
+use Rattle.machine.specs.Accesses.{stored, store_to}
+use Rattle.machine.specs.Outcomes.{Outcome, outcome, StepAnswer, at_place}
 use Rattle.machine.specs.Execution.{perform, decoded, execute}
 use Rattle.machine.specs.Isolation.{LeadsNowhere, FetchesNothing}
 use Rattle.machine.specs.Step.{at_levels, keeps_waiting, awake, by_waiting, act, acted, ended, step}
@@ -20,6 +30,18 @@ use Rattle.machine.proofs.Coming.{Came, raises, goes, supervises, writes, unread
 pub obeyed : (s : State) (m : Memory) (word : ℕ) (i : Instruction) (a : Action) (o : Outcome StepAnswer) → Some i ≡ decode_of word
     → a ≡ plan s.user s.registers.timer i → o ≡ perform s m a → o ≡ decoded s m (decode_of word)
 obeyed s m word i a o is planned performed = performed ∙ ap (perform s m) planned ∙ ap (decoded s m) is
+
+refused_store : (s after : State) (m n : Memory) (x : Result Memory Refusal) (e : Refusal) → Err e ≡ answer_of x → n ≡ memory_after m x
+    → outcome (Err (record { by_bus = e; kind = kind.Store; pc = s.user.pc })) s n ≡ stored s after m x
+refused_store s after m n (Ok k) e is left = absurd cc
+refused_store s after m n (Err f) e is left = cc
+
+pub unstored : (s : State) (m n : Memory) (op : StoreOp) (at : VirtAddr) (value : ℕ) (place : PhysAddr) (e : Refusal)
+    → Ok place ≡ locate s kind.Store (store_width op) at → Err e ≡ answer_of (write_of m place.0 (store_width op) value)
+    → n ≡ memory_after m (write_of m place.0 (store_width op) value)
+    → outcome (Err (record { by_bus = e; kind = kind.Store; pc = s.user.pc })) s n ≡ perform s m (Store op at value)
+unstored s m n op at value place e is told left =
+    refused_store s (advanced s) m n (write_of m place.0 (store_width op) value) e told left ∙ ap (at_place s m (store_to s m op value)) is
 
 -- the state and the memory that a refusal leaves
 record Stays (s : State) (m : Memory) (o : Outcome StepAnswer) : Type 0 where

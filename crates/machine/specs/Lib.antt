@@ -9,3 +9,5 @@ pub mod Step
 pub mod Isolation
 pub mod Calls
 pub mod Laws
+pub mod LookAside
+pub mod Steps

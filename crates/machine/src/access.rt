@@ -3,11 +3,10 @@ ghost use Rattle.std.specs.Prelude.{◌≡◌, ◌%◌, ◌==◌, true};
 ghost use Rattle.bus.specs.Memory.{is_width};
 ghost use Rattle.machine.specs.Access.{misalignment, locate};
 
-use crate::state::State;
+use crate::cached::CachedState;
 use bus::PhysAddr;
 use csr::Exception;
 use pages::{AccessKind, VirtAddr};
-use translation::translate;
 
 // By cases, so that the code divides by constants alone.
 fn is_aligned(width: u32, at: VirtAddr) -> bool
@@ -30,24 +29,23 @@ fn misalignment(kind: AccessKind, at: VirtAddr) -> Exception
     }
 }
 
-impl State {
+impl CachedState {
     // The access type is not used, there being no cache.
+    #[inline(always)]
     pub(crate) fn locate(
-        &self,
+        &mut self,
         kind: AccessKind,
         width: u32,
         at: VirtAddr,
     ) -> Result<PhysAddr, Exception>
         requires { is_width width ≡ true }
-        ensures { result ≡ locate self.now kind width at }
+        ensures value { result ≡ locate self.old kind width at }
+        ensures same { self.new ≡ self.old }
     {
-        if !is_aligned(width, at) {
-            return Err(misalignment(kind, at));
-        }
-        let registers = &self.registers;
-        match translate(&registers.mode, &registers.windows, &self.tlb, kind, at) {
-            Ok((place, _)) => Ok(place),
-            Err(fault) => Err(Exception::Page(fault, at)),
+        if is_aligned(width, at) {
+            self.translate(kind, at)
+        } else {
+            Err(misalignment(kind, at))
         }
     }
 }

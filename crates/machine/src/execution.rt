@@ -7,25 +7,25 @@ ghost use Rattle.machine.specs.Isolation.{LeadsNowhere};
 ghost use Rattle.machine.specs.Outcomes.{outcome};
 
 use crate::answers::{Event, StepRefusal};
-use crate::state::State;
+use crate::cached::CachedState;
 use actions::Action;
 use bus::{Access, Bus};
 use csr::Exception;
 use isa::decode;
 use pages::AccessKind;
 
-impl State {
+impl CachedState {
     fn perform<B: Bus>(&mut self, bus: &mut B, action: Action) -> Result<Event, StepRefusal>
         ensures value { outcome result self.new (B.byte bus.new) ≡ perform self.old (B.byte bus.old) action }
         ensures kept { B.layout bus.new ≡ B.layout bus.old }
     {
         match action {
             Action::Write { rd, value, next } => {
-                self.user.write(rd, value, next);
+                self.plain.user.write(rd, value, next);
                 Ok(Event::Done)
             }
             Action::Go { next } => {
-                self.user.pc = next;
+                self.plain.user.pc = next;
                 Ok(Event::Done)
             }
             Action::Load { op, rd, at } => self.load(bus, op, rd, at),
@@ -46,7 +46,10 @@ impl State {
     {
         match decode(word) {
             Some(instruction) => {
-                let action = self.user.plan(&self.registers.timer, instruction);
+                let action = self
+                    .plain
+                    .user
+                    .plan(&self.plain.registers.timer, instruction);
                 self.perform(bus, action)
             }
             None => Ok(self.raise(Exception::Ine)),
@@ -58,7 +61,7 @@ impl State {
         ensures kept { B.layout bus.new ≡ B.layout bus.old }
         ensures untouched { LeadsNowhere self.old → bus.new ≡ bus.old }
     {
-        match self.locate(AccessKind::Fetch, 4, self.user.pc) {
+        match self.locate(AccessKind::Fetch, 4, self.plain.user.pc) {
             Ok(place) => match bus.read(Access::new(place, 4)) {
                 Ok(word) => self.decode_and_perform(bus, word),
                 Err(by_bus) => Err(self.refusal(AccessKind::Fetch, by_bus)),
@@ -72,7 +75,7 @@ impl State {
         ensures kept { B.layout bus.new ≡ B.layout bus.old }
         ensures untouched { (interrupted self.old.registers ≡ false → LeadsNowhere self.old) → bus.new ≡ bus.old }
     {
-        if self.registers.is_interrupted() {
+        if self.plain.registers.is_interrupted() {
             Ok(self.raise(Exception::Int))
         } else {
             self.fetch(bus)

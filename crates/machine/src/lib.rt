@@ -3,9 +3,11 @@
 
 mod access;
 pub mod answers;
+pub mod cached;
 mod exceptions;
 mod execution;
 mod loads_and_stores;
+pub mod look_aside;
 mod read_outs;
 mod running;
 pub mod stages;

@@ -8,24 +8,45 @@ ghost use Rattle.machine.specs.Execution.{perform};
 ghost use Rattle.machine.specs.Outcomes.{settled, outcome};
 
 use crate::answers::{Event, StepRefusal};
-use crate::state::State;
+use crate::cached::CachedState;
 use bus::{Access, Bus, Refusal};
 use isa::{LoadOp, Reg, StoreOp};
 use operations::{load_result, load_width, store_width};
 use pages::{AccessKind, VirtAddr};
 
-impl State {
+impl CachedState {
     pub(crate) fn refusal(&self, kind: AccessKind, by_bus: Refusal) -> StepRefusal
         ensures { result ≡ record { by_bus = by_bus; kind = kind; pc = self.now.user.pc } }
     {
         StepRefusal {
             by_bus,
             kind,
-            pc: self.user.pc,
+            pc: self.plain.user.pc,
         }
     }
 
+    // Each operation has a copy of its own, in which its width is a constant and no longer tested.
     pub(crate) fn load<B: Bus>(
+        &mut self,
+        bus: &mut B,
+        op: LoadOp,
+        rd: Reg,
+        at: VirtAddr,
+    ) -> Result<Event, StepRefusal>
+        ensures value { outcome result self.new (B.byte bus.new) ≡ perform self.old (B.byte bus.old) (action.Load op rd at) }
+        ensures kept { B.layout bus.new ≡ B.layout bus.old }
+    {
+        match op {
+            LoadOp::LdB => self.load_as(bus, LoadOp::LdB, rd, at),
+            LoadOp::LdH => self.load_as(bus, LoadOp::LdH, rd, at),
+            LoadOp::LdW => self.load_as(bus, LoadOp::LdW, rd, at),
+            LoadOp::LdBu => self.load_as(bus, LoadOp::LdBu, rd, at),
+            LoadOp::LdHu => self.load_as(bus, LoadOp::LdHu, rd, at),
+        }
+    }
+
+    #[inline(always)]
+    fn load_as<B: Bus>(
         &mut self,
         bus: &mut B,
         op: LoadOp,
@@ -39,7 +60,7 @@ impl State {
         match self.locate(AccessKind::Load, width, at) {
             Ok(place) => match bus.read(Access::new(place, width)) {
                 Ok(value) => {
-                    self.set_result(rd, load_result(op, value));
+                    self.plain.set_result(rd, load_result(op, value));
                     Ok(Event::Done)
                 }
                 Err(by_bus) => Err(self.refusal(AccessKind::Load, by_bus)),
@@ -58,11 +79,29 @@ impl State {
         ensures value { outcome result self.new (B.byte bus.new) ≡ perform self.old (B.byte bus.old) (action.Store op at value) }
         ensures kept { B.layout bus.new ≡ B.layout bus.old }
     {
+        match op {
+            StoreOp::StB => self.store_as(bus, StoreOp::StB, at, value),
+            StoreOp::StH => self.store_as(bus, StoreOp::StH, at, value),
+            StoreOp::StW => self.store_as(bus, StoreOp::StW, at, value),
+        }
+    }
+
+    #[inline(always)]
+    fn store_as<B: Bus>(
+        &mut self,
+        bus: &mut B,
+        op: StoreOp,
+        at: VirtAddr,
+        value: u32,
+    ) -> Result<Event, StepRefusal>
+        ensures value { outcome result self.new (B.byte bus.new) ≡ perform self.old (B.byte bus.old) (action.Store op at value) }
+        ensures kept { B.layout bus.new ≡ B.layout bus.old }
+    {
         let width = store_width(op);
         match self.locate(AccessKind::Store, width, at) {
             Ok(place) => match bus.write(Access::new(place, width), value) {
                 Ok(()) => {
-                    self.advance();
+                    self.plain.advance();
                     Ok(Event::Done)
                 }
                 Err(by_bus) => Err(self.refusal(AccessKind::Store, by_bus)),
@@ -84,8 +123,8 @@ impl State {
         match self.locate(AccessKind::Load, 4, at) {
             Ok(place) => match bus.read(Access::new(place, 4)) {
                 Ok(value) => {
-                    self.set_result(rd, value);
-                    self.registers.link = true;
+                    self.plain.set_result(rd, value);
+                    self.plain.registers.link = true;
                     Ok(Event::Done)
                 }
                 Err(by_bus) => Err(self.refusal(AccessKind::Load, by_bus)),
@@ -107,12 +146,12 @@ impl State {
     {
         match self.locate(AccessKind::Store, 4, at) {
             Ok(place) => {
-                let link = self.registers.link;
+                let link = self.plain.registers.link;
                 if link && let Err(by_bus) = bus.write(Access::new(place, 4), value) {
                     return Err(self.refusal(AccessKind::Store, by_bus));
                 }
-                self.set_result(rd, u32::from(link));
-                self.registers.link = false;
+                self.plain.set_result(rd, u32::from(link));
+                self.plain.registers.link = false;
                 Ok(Event::Done)
             }
             Err(exception) => Ok(self.raise(exception)),
@@ -125,7 +164,7 @@ impl State {
     {
         match self.locate(AccessKind::Load, 1, at) {
             Ok(_) => {
-                self.advance();
+                self.plain.advance();
                 Event::Done
             }
             Err(exception) => self.raise(exception),

@@ -37,7 +37,7 @@ impl RunningCore {
         ensures isolated { StepIsolated self.old levels (B.byte bus.old) (outcome result self.new (B.byte bus.new)) }
         ensures confined { Confined self.old (B.byte bus.old) (outcome result self.new (B.byte bus.new)) }
     {
-        self.state.step(bus, levels)
+        self.state.steps(bus, 1, levels).last
     }
 
     // Makes `count` steps with the same levels, or as many as come before a refused one.
@@ -65,6 +65,6 @@ impl RunningCore {
         if count > MOST_STEPS {
             return Err(CallRefusal::RunTooLong);
         }
-        Ok(self.state.run(bus, count, levels))
+        Ok(self.state.steps(bus, count, levels).report())
     }
 }

@@ -4,7 +4,7 @@ ghost use Rattle.std.specs.Prelude.{◌≡◌};
 ghost use Rattle.machine.specs.State.{reset_state};
 ghost use Rattle.machine.specs.Calls.{closed};
 
-use crate::state::State;
+use crate::cached::CachedState;
 use pages::VirtAddr;
 use std::marker::Model;
 
@@ -13,7 +13,7 @@ pub struct UnresetCore;
 
 #[derive(PartialEq, Eq, Debug, Drop)]
 pub struct RunningCore {
-    pub(crate) state: State,
+    pub(crate) state: CachedState,
 }
 
 #[derive(PartialEq, Eq, Debug, Drop)]
@@ -38,7 +38,7 @@ impl UnresetCore {
         ensures { result ≡ reset_state }
     {
         RunningCore {
-            state: State::new(),
+            state: CachedState::new(),
         }
     }
 }
@@ -47,15 +47,15 @@ impl RunningCore {
     pub fn reset(&mut self)
         ensures { self.new ≡ reset_state }
     {
-        self.state = State::new();
+        self.state = CachedState::new();
     }
 
     pub fn close(self) -> ClosedCore
         ensures { result ≡ closed self }
     {
         ClosedCore {
-            pc: self.state.user.pc,
-            counter: self.state.registers.timer.counter,
+            pc: self.state.plain.user.pc,
+            counter: self.state.plain.registers.timer.counter,
         }
     }
 }

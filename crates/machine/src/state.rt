@@ -1,6 +1,8 @@
 // The state of a core that was reset.
 ghost use Rattle.std.specs.Prelude.{◌≡◌};
+ghost use Rattle.csr.specs.Interrupts.{due};
 ghost use Rattle.machine.specs.State.{reset_state, advanced, with_result};
+ghost use Rattle.machine.specs.Step.{keeps_waiting};
 
 use actions::UserState;
 use control::Registers;
@@ -33,6 +35,13 @@ impl State {
             tlb: Tlb::new(),
             activity: Activity::Running,
         }
+    }
+
+    // Whether it waits, and nothing is due.
+    pub(crate) fn keeps_waiting(&self) -> bool
+        ensures { result ≡ keeps_waiting self.now.activity (due self.now.registers.interrupts) }
+    {
+        self.activity == Activity::Waiting && !self.registers.interrupts.is_due()
     }
 
     // The next instruction follows.

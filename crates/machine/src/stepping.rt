@@ -1,4 +1,4 @@
-// One step, and a run of steps.
+// One step, and as many as are asked for.
 ghost use Rattle.std.specs.Prelude.{◌≡◌, false};
 ghost use Rattle.csr.specs.Interrupts.{due};
 ghost use Rattle.control.specs.Exceptions.{interrupted};
@@ -6,65 +6,89 @@ ghost use Rattle.machine.specs.Isolation.{LeadsNowhere, FetchesNothing};
 ghost use Rattle.machine.specs.Laws.{NoStepFetches};
 ghost use Rattle.machine.specs.Outcomes.{outcome};
 ghost use Rattle.machine.specs.Step.{keeps_waiting, act, step, run_of};
+ghost use Rattle.machine.specs.Steps.{report, Single};
 
 use crate::answers::{Event, RunReport, StepRefusal};
-use crate::state::{Activity, State};
+use crate::cached::CachedState;
+use crate::state::Activity;
 use bus::Bus;
 
-impl State {
+// How many steps a loop made, and what the last answered; none answers `Done`.
+#[derive(Clone, Copy)]
+pub struct Made {
+    pub(crate) steps: u32,
+    pub(crate) last: Result<Event, StepRefusal>,
+}
+
+impl Made {
+    pub(crate) fn report(self) -> RunReport
+        ensures { result ≡ report self }
+    {
+        RunReport {
+            steps: self.steps,
+            refusal: self.last.err(),
+        }
+    }
+}
+
+impl CachedState {
     // A waiting core for which nothing is due goes on waiting.
     fn act<B: Bus>(&mut self, bus: &mut B) -> Result<Event, StepRefusal>
         ensures value { outcome result self.new (B.byte bus.new) ≡ act self.old (B.byte bus.old) }
         ensures kept { B.layout bus.new ≡ B.layout bus.old }
         ensures untouched { (keeps_waiting self.old.activity (due self.old.registers.interrupts) ≡ false → interrupted self.old.registers ≡ false → LeadsNowhere self.old) → bus.new ≡ bus.old }
     {
-        match (self.activity, self.registers.interrupts.is_due()) {
-            (Activity::Waiting, false) => Ok(Event::Waiting),
-            (Activity::Waiting, true) | (Activity::Running, _) => {
-                self.activity = Activity::Running;
-                self.execute(bus)
-            }
+        if self.plain.keeps_waiting() {
+            return Ok(Event::Waiting);
         }
+        self.plain.activity = Activity::Running;
+        self.execute(bus)
     }
 
     // A refused step puts back the two things that it changed before it asked the bus.
-    pub(crate) fn step<B: Bus>(&mut self, bus: &mut B, levels: u8) -> Result<Event, StepRefusal>
+    fn step<B: Bus>(&mut self, bus: &mut B, levels: u8) -> Result<Event, StepRefusal>
         ensures value { outcome result self.new (B.byte bus.new) ≡ step self.old levels (B.byte bus.old) }
         ensures kept { B.layout bus.new ≡ B.layout bus.old }
         ensures untouched { FetchesNothing self.old levels → bus.new ≡ bus.old }
     {
-        let old_levels = self.registers.interrupts.pending.hwi;
-        let old_activity = self.activity;
-        self.registers.take_levels(levels);
+        let old_levels = self.plain.registers.interrupts.pending.hwi;
+        let old_activity = self.plain.activity;
+        self.plain.registers.take_levels(levels);
         match self.act(bus) {
             Ok(event) => {
-                self.registers.beat();
+                self.plain.registers.beat();
                 Ok(event)
             }
             Err(refusal) => {
-                self.registers.take_levels(old_levels);
-                self.activity = old_activity;
+                self.plain.registers.take_levels(old_levels);
+                self.plain.activity = old_activity;
                 Err(refusal)
             }
         }
     }
 
-    pub(crate) fn run<B: Bus>(&mut self, bus: &mut B, count: u32, levels: u8) -> RunReport
-        ensures value { outcome result self.new (B.byte bus.new) ≡ run_of count levels self.old (B.byte bus.old) }
+    // There is one loop behind a step and a run, so that the code of a step stands in a program once, within the loop.
+    pub(crate) fn steps<B: Bus>(&mut self, bus: &mut B, count: u32, levels: u8) -> Made
+        ensures value { outcome (report result) self.new (B.byte bus.new) ≡ run_of count levels self.old (B.byte bus.old) }
         ensures kept { B.layout bus.new ≡ B.layout bus.old }
         ensures untouched { NoStepFetches count levels self.old (B.byte bus.old) → bus.new ≡ bus.old }
+        ensures single { count ≡ 1 → Single self.old levels (B.byte bus.old) (outcome result.last self.new (B.byte bus.new)) (bus.new ≡ bus.old) }
     {
+        let mut last = Event::Done;
         for steps in 0..count {
-            if let Err(refusal) = self.step(bus, levels) {
-                return RunReport {
-                    steps,
-                    refusal: Some(refusal),
-                };
+            match self.step(bus, levels) {
+                Ok(event) => last = event,
+                Err(refusal) => {
+                    return Made {
+                        steps,
+                        last: Err(refusal),
+                    };
+                }
             }
         }
-        RunReport {
+        Made {
             steps: count,
-            refusal: None,
+            last: Ok(last),
         }
     }
 }

@@ -1,12 +1,12 @@
-// The first program on a bank; numbers of answers, as the documents have them; and what no contract can say: that there is memory for a list's
-// answers, and how often a step asks the bus, whose meaning is the same after a read.
+// The first program on a bank; how large a core is; numbers of answers, as the documents have them; and what no contract can say: that there is memory
+// for a list's answers, and how often a step asks the bus, whose meaning is the same after a read.
 ghost use Rattle.std.specs.Prelude.{◌≡◌};
 
 use crate::{Sum, add_up};
 use bus::{Access, Bus, PhysAddr, Refusal};
 use csr::Cause;
 use driver::{Answer, Call, drive};
-use machine::{CallRefusal, Event, UnresetCore};
+use machine::{CallRefusal, Event, RunningCore, UnresetCore};
 use pages::VirtAddr;
 use parts::Bank;
 
@@ -27,6 +27,11 @@ fn the_first_program_on_a_bank(rt: HostRuntime) {
         counter: 3,
     };
     assert_eq!(rt; add_up(&mut bank), sum);
+}
+
+#[test]
+fn a_core_is_below_4_kib(rt: HostRuntime) {
+    assert!(rt; size_of::<RunningCore>() < 4096);
 }
 
 #[test]

@@ -10,7 +10,8 @@ use csr::{Mode, PageFault, TranslationMode, Windows};
 use pages::{AccessKind, AccessType, VirtAddr};
 use tlb::Tlb;
 
-fn direct(mode: &Mode, kind: AccessKind, at: VirtAddr) -> (PhysAddr, AccessType)
+// In direct mode an address is its own.
+pub fn direct(mode: &Mode, kind: AccessKind, at: VirtAddr) -> (PhysAddr, AccessType)
     ensures { result ≡ direct mode.now kind at.0 }
 {
     let mat = match kind {

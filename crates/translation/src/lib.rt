@@ -5,7 +5,7 @@ mod by_mode;
 mod page;
 mod window;
 
-pub use by_mode::translate;
+pub use by_mode::{direct, translate};
 
 #[cfg(test)]
 mod tests;

@@ -1,7 +1,7 @@
 use Rattle.machine.proofs.Steps.{obeyed}
-use Rattle.machine.proofs.state.State.decode_and_perform.Goals as goal
+use Rattle.machine.proofs.cached.CachedState.decode_and_perform.Goals as goal
 
 pub returns-in-Some-clause-value : goal.returns-in-Some-clause-value
 returns-in-Some-clause-value g c =
     obeyed c.args.self.now (g.B.Bus.byte c.args.bus.now) c.args.word c.in-Some.instruction c.plan-action.result _ c.in-Some.ensures.value
-    c.plan-action.ensures.value c.perform.ensures.value
+    (rw (← c.self.view_is) c.plan-action.ensures.value) c.perform.ensures.value
