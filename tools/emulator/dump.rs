@@ -20,12 +20,12 @@ use std::io::{self, Write};
 
 use crate::cpu::Core;
 use crate::csr;
-use crate::setup::{Answer, Session};
+use crate::setup::{self, Answer, Session};
 use crate::text::lines;
 use crate::tlb::{Entry, Page, ENTRIES};
 
 pub fn print_states(text: &[u8], out: &mut impl Write) -> io::Result<()> {
-    let mut session = Session::new();
+    let mut session = Session::new(setup::board());
     for line in lines(text) {
         let answer = session.handle(line);
         session.print(answer, out)?;

@@ -14,7 +14,6 @@ mod setup;
 #[cfg(test)]
 mod tests;
 mod text;
-mod timing;
 mod tlb;
 mod translation;
 
@@ -26,8 +25,7 @@ const USAGE: &str = "usage: emulator tintrun < SET-UP
        emulator listings SET-UP...
        emulator boards BOARD-TEXT...
        emulator state SET-UP...
-       emulator time SET-UP STEPS
-       emulator time-layers SET-UP STEPS";
+       emulator layered < SET-UP";
 
 fn main() -> ExitCode {
     let arguments: Vec<String> = std::env::args().skip(1).collect();
@@ -43,32 +41,29 @@ fn main() -> ExitCode {
 fn command(arguments: &[String]) -> Result<(), String> {
     let (name, files) = arguments.split_first().ok_or(USAGE)?;
     match (name.as_str(), files) {
-        ("tintrun", []) => tintrun(),
+        ("tintrun", []) => from_input(setup::print_listing),
         ("listings", _) => for_each(files, setup::print_listing),
         ("boards", _) => for_each(files, board_text::print_answers),
         ("state", _) => for_each(files, dump::print_states),
-        ("time", [file, steps]) => print_time(file, steps, timing::time_on_bank),
-        ("time-layers", [file, steps]) => print_time(file, steps, timing::time_under_layers),
+        ("layered", []) => from_input(setup::print_layered_listing),
         _ => Err(USAGE.to_string()),
     }
 }
 
-fn tintrun() -> Result<(), String> {
+/// Prints what becomes of the text on standard input.
+fn from_input(print: Print) -> Result<(), String> {
     let text = setup::read_text(io::stdin()).map_err(|error| format!("standard input: {error}"))?;
     if text.len() as u64 == setup::LONGEST_TEXT {
         eprintln!("no more than {} bytes are read", setup::LONGEST_TEXT);
     }
     let mut out = output();
-    setup::print_listing(&text, &mut out)
+    print(&text, &mut out)
         .and_then(|()| out.flush())
         .map_err(output_error)
 }
 
 /// Prints each file's name and what becomes of its text.
-fn for_each(
-    files: &[String],
-    print: fn(&[u8], &mut Output) -> io::Result<()>,
-) -> Result<(), String> {
+fn for_each(files: &[String], print: Print) -> Result<(), String> {
     let mut out = output();
     for file in files {
         let text = read(file)?;
@@ -79,17 +74,6 @@ fn for_each(
     out.flush().map_err(output_error)
 }
 
-fn print_time(
-    file: &str,
-    steps: &str,
-    time: fn(&[u8], u64) -> Result<f64, String>,
-) -> Result<(), String> {
-    let steps = steps.parse().map_err(|error| format!("{steps}: {error}"))?;
-    let text = read(file)?;
-    println!("{:.3}", time(&text, steps)?);
-    Ok(())
-}
-
 /// A text, of which no more is read than `tintrun` reads.
 fn read(file: &str) -> Result<Vec<u8>, String> {
     File::open(file)
@@ -98,6 +82,8 @@ fn read(file: &str) -> Result<Vec<u8>, String> {
 }
 
 type Output = BufWriter<StdoutLock<'static>>;
+
+type Print = fn(&[u8], &mut Output) -> io::Result<()>;
 
 fn output() -> Output {
     BufWriter::new(io::stdout().lock())

@@ -2,7 +2,7 @@
 
 use std::io::{self, Read, Write};
 
-use crate::bus::{write_word, Bank};
+use crate::bus::{write_word, Bank, Bus, Image, Shift, Span, Split};
 use crate::cpu::{Core, RunReport, RunTooLong, RESET_ADDRESS};
 use crate::text::hex_field;
 
@@ -10,6 +10,8 @@ use crate::text::hex_field;
 pub const LONGEST_TEXT: u64 = 65_536;
 
 pub const BANK_LENGTH: usize = 32_768;
+
+const BORDER: u32 = 0x8000_0000;
 
 pub fn read_text(source: impl Read) -> io::Result<Vec<u8>> {
     let mut text = Vec::new();
@@ -24,14 +26,14 @@ pub fn board() -> Bank {
 
 /// A line of one of the three forms.
 #[derive(Clone, Copy, Debug, PartialEq, Eq)]
-pub enum Line {
+enum Line {
     Write { address: u32, word: u32 },
     Run { count: u32 },
     Register { number: u32 },
 }
 
 impl Line {
-    pub fn read(line: &[u8]) -> Option<Line> {
+    fn read(line: &[u8]) -> Option<Line> {
         let (letter, fields) = line.strip_suffix(b"\n")?.split_first()?;
         let fields = fields.strip_prefix(b",")?;
         match letter {
@@ -81,17 +83,17 @@ const NO_FORM: Answer = Answer::Refused(10);
 const WRONG_TIME: Answer = Answer::Refused(11);
 
 /// A set-up as far as it was read.
-pub struct Session {
-    pub board: Bank,
+pub struct Session<B> {
+    board: B,
     /// There is a core from the first line `g` of good form on.
     core: Option<Core>,
     lines: u32,
 }
 
-impl Session {
-    pub fn new() -> Session {
+impl<B: Bus> Session<B> {
+    pub fn new(board: B) -> Session<B> {
         Session {
-            board: board(),
+            board,
             core: None,
             lines: 0,
         }
@@ -166,21 +168,22 @@ impl Session {
 }
 
 pub fn print_listing(text: &[u8], out: &mut impl Write) -> io::Result<()> {
-    let mut session = Session::new();
+    print_listing_on(board(), text, out)
+}
+
+/// On a bank under a shift and a split, for the benchmark.
+pub fn print_layered_listing(text: &[u8], out: &mut impl Write) -> io::Result<()> {
+    let span = Span::new(RESET_ADDRESS, BANK_LENGTH as u32);
+    let shifted = Shift::new(span, Bank::new(0, vec![0; BANK_LENGTH]));
+    let nothing = Image::new(0, Vec::new());
+    print_listing_on(Split::new(BORDER, shifted, nothing), text, out)
+}
+
+fn print_listing_on<B: Bus>(board: B, text: &[u8], out: &mut impl Write) -> io::Result<()> {
+    let mut session = Session::new(board);
     for line in crate::text::lines(text) {
         let answer = session.handle(line);
         session.print(answer, out)?;
     }
     Ok(())
-}
-
-/// The words that a set-up writes before its first run, with refused lines passed over.
-pub fn words(text: &[u8]) -> impl Iterator<Item = (u32, u32)> + '_ {
-    crate::text::lines(text)
-        .filter_map(Line::read)
-        .take_while(|line| !matches!(line, Line::Run { .. }))
-        .filter_map(|line| match line {
-            Line::Write { address, word } => Some((address, word)),
-            _ => None,
-        })
 }

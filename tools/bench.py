@@ -1,0 +1,140 @@
+#!/usr/bin/env python3
+"""Compares the speed of the proved core with that of the second emulator, in one run on this machine.
+
+    (cd crates/tintrun && rt run < stdin); (cd crates/benchlayers && rt run < stdin)    # builds both programs
+    python3 tools/bench.py
+
+The same set-ups go to `tintrun`, on a bank alone, to `benchlayers`, on a bank under a shift and a split, and to the emulator of
+tools/emulator on both boards. All print the listing, in which no run may be cut short. Every program takes every set-up in turn, many
+times; the fastest turn counts, less the fastest of the same set-up with runs of no step.
+"""
+import argparse
+import pathlib
+import subprocess
+import sys
+import tempfile
+import time
+from typing import NamedTuple
+
+import compare
+
+sys.path.insert(0, str(compare.TOP / "tools" / "programs"))
+import benchmarks  # noqa: E402
+
+LONGEST_RUN = 65_536
+
+BANK, LAYERS = "tintrun", "benchlayers"
+OTHER_BANK, OTHER_LAYERS = "emulator", "emulator under layers"
+
+
+class Runs(NamedTuple):
+    """So many runs of so many steps."""
+
+    count: int
+    length: int
+
+    @property
+    def steps(self) -> int:
+        return self.count * self.length
+
+    def without_steps(self) -> "Runs":
+        return Runs(self.count, 0)
+
+    def text(self, lines: str) -> bytes:
+        """A set-up that makes the runs, behind the lines that write a program."""
+        return (lines + f"g,{self.length}\n" * self.count).encode()
+
+    def are_whole(self, listing: bytes) -> bool:
+        """Whether none was refused or cut short, and nothing else was said."""
+        printed = listing.splitlines()
+        return len(printed) == self.count and all(line.startswith(b"run,%d," % self.length) for line in printed)
+
+
+LONG, SHORT = Runs(40, LONGEST_RUN), Runs(4_000, 100)
+
+
+class Job(NamedTuple):
+    """Runs of a benchmark's program by one of the programs that are timed."""
+
+    by: str
+    name: str
+    runs: Runs
+
+
+def timed(command: list[str | pathlib.Path], job: Job) -> float:
+    """How many seconds a turn of a job takes."""
+    text = job.runs.text(benchmarks.lines(job.name))
+    start = time.perf_counter()
+    run = subprocess.run(command, input=text, stdout=subprocess.PIPE, check=True)
+    seconds = time.perf_counter() - start
+    if not job.runs.are_whole(run.stdout):
+        sys.exit(f"bench: a run of {job.name} was cut short in {job.by}")
+    return seconds
+
+
+def fastest(programs: dict[str, list[str | pathlib.Path]], jobs: list[Job], turns: int) -> dict[Job, float]:
+    """The fastest of several turns of each job. All take turns, so that a slow while of the machine meets all alike."""
+    times = dict.fromkeys(jobs, float("inf"))
+    for _ in range(turns):
+        for job in jobs:
+            times[job] = min(times[job], timed(programs[job.by], job))
+    return times
+
+
+class Steps(NamedTuple):
+    """The times of jobs, as nanoseconds of a step."""
+
+    times: dict[Job, float]
+
+    def of(self, by: str, name: str, runs: Runs = LONG) -> float:
+        whole, rest = self.times[Job(by, name, runs)], self.times[Job(by, name, runs.without_steps())]
+        return (whole - rest) / runs.steps * 1e9
+
+
+def table(title: str, head: list[str], rows: list[list[str]]) -> None:
+    """Prints a table as the documents have them."""
+    print(f"\n{title}\n")
+    for row in (head, ["---"] * len(head), *rows):
+        print("| " + " | ".join(row) + " |")
+
+
+def print_against_emulator(title: str, by: str, other: str, names: list[str], steps: Steps) -> None:
+    rows = []
+    for name in names:
+        core, emulator = steps.of(by, name), steps.of(other, name)
+        rows.append([f"`{name}`", f"{1e3 / core:.0f}", f"{1e3 / emulator:.0f}", f"{emulator / core:.2f}"])
+    table(title, ["program", "proved core, million steps a second", "second emulator", "ratio"], rows)
+
+
+def print_against_itself(names: list[str], steps: Steps) -> None:
+    rows = []
+    for name in names:
+        bank, layers, short = steps.of(BANK, name), steps.of(LAYERS, name), steps.of(BANK, name, SHORT)
+        rows.append([f"`{name}`", f"{layers / bank:.2f}", f"{short / bank:.2f}"])
+    title = "The time of a step of the proved core, by that on a bank in long runs"
+    table(title, ["program", "under a shift and a split", "in runs of 100"], rows)
+
+
+def main() -> None:
+    parser = argparse.ArgumentParser(description="Compares the speed of the proved core with that of the second emulator.")
+    parser.add_argument("--turns", type=int, default=20, help="how often each program is timed")
+    parser.add_argument("names", nargs="*", default=list(benchmarks.BENCHMARKS), help="benchmarks; all, if none is named")
+    chosen = parser.parse_args()
+    with tempfile.TemporaryDirectory() as folder:
+        emulator = compare.build_emulator(pathlib.Path(folder))
+        programs = {
+            BANK: [compare.proved_program("tintrun")],
+            LAYERS: [compare.proved_program("benchlayers")],
+            OTHER_BANK: [emulator, "tintrun"],
+            OTHER_LAYERS: [emulator, "layered"],
+        }
+        jobs = [Job(by, name, runs) for by in programs for name in chosen.names for runs in (LONG, LONG.without_steps())]
+        jobs += [Job(BANK, name, runs) for name in chosen.names for runs in (SHORT, SHORT.without_steps())]
+        steps = Steps(fastest(programs, jobs, chosen.turns))
+    print_against_emulator("On a bank alone", BANK, OTHER_BANK, chosen.names, steps)
+    print_against_emulator("Under a shift and a split", LAYERS, OTHER_LAYERS, chosen.names, steps)
+    print_against_itself(chosen.names, steps)
+
+
+if __name__ == "__main__":
+    main()
