@@ -61,7 +61,7 @@ to_pc n h w e = to_top 7 w (omega arith) ∙ ap (λ k. upper_of k w) e
 to_atomic : (n : ℕ) → n / 2 ^ 2 ≡ 8 → (w : ℕ) → w / 2 ^ 24 ≡ n → decode_of w ≡ atomic_of n w
 to_atomic n h w e = to_top 8 w (omega arith) ∙ ap (λ k. atomic_of k w) e
 
-to_memory : (n : ℕ) → n / 2 ^ 4 ≡ 10 → (w : ℕ) → w / 2 ^ 22 ≡ n → decode_of w ≡ memory_of n w
+pub to_memory : (n : ℕ) → n / 2 ^ 4 ≡ 10 → (w : ℕ) → w / 2 ^ 22 ≡ n → decode_of w ≡ memory_of n w
 to_memory n h w e = to_top 10 w (omega arith) ∙ ap (λ k. memory_of k w) e
 
 to_barrier : (n : ℕ) → n / 2 ^ 11 ≡ 14 → (w : ℕ) → w / 2 ^ 15 ≡ n → decode_of w ≡ barrier_of n w

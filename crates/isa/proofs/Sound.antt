@@ -46,18 +46,18 @@ pub right : (w : ℕ) → Right w (decode_of w)
 unfolding AllRight decode_of
 right w = choose_right w (w / 2 ^ 26) (highest_rows w) (grind (arith, arith_right w, system_right w, upper_right w, atomic_right w, memory_right w, barrier_right w))
 
--- a number of no row chooses nothing
-unfoldable pub AllDiffer : ℕ → List (ℕ × Option Instruction) → Type 0
-AllDiffer n [] = Unit
-AllDiffer n (row ∷ rows) = (n ≡ row.0 → ⊥) × AllDiffer n rows
+-- a choice is nothing if its row is, or there is none
+unfoldable pub AllNone : ℕ → List (ℕ × Option Instruction) → Type 0
+AllNone n [] = Unit
+AllNone n (row ∷ rows) = (n ≡ row.0 → row.1 ≡ None) × AllNone n rows
 
-pub choose_none : (n : ℕ) (rows : List (ℕ × Option Instruction)) → AllDiffer n rows → choose n rows ≡ None
-unfolding AllDiffer
+pub choose_none : (n : ℕ) (rows : List (ℕ × Option Instruction)) → AllNone n rows → choose n rows ≡ None
+unfolding AllNone
 choose_none n [] h = refl
 choose_none n (row ∷ rows) h = go (eqb n row.0) refl (choose_none n rows h.1)
   where
     go : (t : Bool) → eqb n row.0 ≡ t → choose n rows ≡ None → cond t row.1 (choose n rows) ≡ None
-    go true e k = elim (h.0 ((Decides-eqb n row.0).0 e)) [ ]
+    go true e k = h.0 ((Decides-eqb n row.0).0 e)
     go false e k = k
 
 pub sound : (w : ℕ) (r : Option Instruction) → Right w r → (i : Instruction) → r ≡ Some i → encode i ≡ w

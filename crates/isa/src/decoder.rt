@@ -1,7 +1,8 @@
-// How a word is read: by its highest six bits, then by those below that its group still leaves open.
-ghost use Rattle.std.specs.Prelude.{◌≡◌, ◌/◌, ◌%◌, ◌^◌, Some};
+// How a word is read: by its ten highest bits where they tell its row or its group, else by the highest six, then by those below that are
+// still open.
+ghost use Rattle.std.specs.Prelude.{◌≡◌, ◌/◌, ◌%◌, ◌^◌, Some, None};
 ghost use Rattle.isa.specs.Table.{Exact, HaveWords};
-ghost use Rattle.isa.specs.Decoding.{counter_of, register_of, three_registers_of, shift_of, shifts_of, immediate_of, arithmetic_of, csr_of, whole_word_of, tlb_of, cache_of, system_of, upper_of, atomic_of, load_of, store_of, memory_of, barrier_of, branch_of, by_highest_bits, decode_of};
+ghost use Rattle.isa.specs.Decoding.{counter_of, register_of, three_registers_of, shift_of, shifts_of, immediate_of, arithmetic_of, csr_of, whole_word_of, tlb_of, system_of, upper_of, atomic_of, load_of, store_of, memory_of, barrier_of, branch_of, by_highest_bits, decode_of};
 
 use crate::instruction::{
     BranchOp, CounterHalf, ImmediateOp, Instruction, LoadOp, RegisterOp, ShiftOp, StoreOp, TlbOp,
@@ -103,22 +104,6 @@ fn immediate(op: ImmediateOp, word: u32) -> Instruction
     }
 }
 
-fn arithmetic(word: u32) -> Option<Instruction>
-    ensures { result ≡ arithmetic_of (word / 2 ^ 22) word }
-{
-    match word >> 22 {
-        0x00 => three_registers(word),
-        0x01 => shifts(word),
-        0x08 => Some(immediate(ImmediateOp::Slti, word)),
-        0x09 => Some(immediate(ImmediateOp::Sltui, word)),
-        0x0a => Some(immediate(ImmediateOp::AddiW, word)),
-        0x0d => Some(immediate(ImmediateOp::Andi, word)),
-        0x0e => Some(immediate(ImmediateOp::Ori, word)),
-        0x0f => Some(immediate(ImmediateOp::Xori, word)),
-        _ => None,
-    }
-}
-
 fn csr(word: u32) -> Instruction
     ensures { result ≡ csr_of (word / 2 ^ 5 % 32) word }
 {
@@ -161,30 +146,6 @@ fn tlb(word: u32) -> Option<Instruction>
             rk: rk(word),
         }),
         _ => None,
-    }
-}
-
-fn cache(word: u32) -> Option<Instruction>
-    ensures { result ≡ cache_of (word / 2 ^ 22) word }
-{
-    match word >> 22 {
-        0x18 => Some(Instruction::Cacop {
-            code: low_bits(word),
-            rj: rj(word),
-            si12: low_bits(word >> 10),
-        }),
-        0x19 => tlb(word),
-        _ => None,
-    }
-}
-
-fn system(word: u32) -> Option<Instruction>
-    ensures { result ≡ system_of (word / 2 ^ 24) word }
-{
-    if word >> 24 == 0x04 {
-        Some(csr(word))
-    } else {
-        cache(word)
     }
 }
 
@@ -248,27 +209,6 @@ fn store(op: StoreOp, word: u32) -> Instruction
     }
 }
 
-fn memory(word: u32) -> Option<Instruction>
-    ensures { result ≡ memory_of (word / 2 ^ 22) word }
-{
-    match word >> 22 {
-        0xa0 => Some(load(LoadOp::LdB, word)),
-        0xa1 => Some(load(LoadOp::LdH, word)),
-        0xa2 => Some(load(LoadOp::LdW, word)),
-        0xa4 => Some(store(StoreOp::StB, word)),
-        0xa5 => Some(store(StoreOp::StH, word)),
-        0xa6 => Some(store(StoreOp::StW, word)),
-        0xa8 => Some(load(LoadOp::LdBu, word)),
-        0xa9 => Some(load(LoadOp::LdHu, word)),
-        0xab => Some(Instruction::Preld {
-            hint: low_bits(word),
-            rj: rj(word),
-            si12: low_bits(word >> 10),
-        }),
-        _ => None,
-    }
-}
-
 fn barrier(word: u32) -> Option<Instruction>
     ensures { result ≡ barrier_of (word / 2 ^ 15) word }
 {
@@ -294,15 +234,16 @@ fn branch(op: BranchOp, word: u32) -> Instruction
     }
 }
 
-fn by_highest_bits(word: u32) -> Option<Instruction>
+// A word of whose ten highest bits there is no row, by the highest six.
+fn by_six_bits(word: u32) -> Option<Instruction>
+    requires arithmetic { arithmetic_of (word / 2 ^ 22) word ≡ None }
+    requires system { system_of (word / 2 ^ 24) word ≡ None }
+    requires memory { memory_of (word / 2 ^ 22) word ≡ None }
     ensures { result ≡ by_highest_bits (word / 2 ^ 26) word }
 {
     match word >> 26 {
-        0x00 => arithmetic(word),
-        0x01 => system(word),
         0x05 | 0x07 => upper(word),
         0x08 => atomic(word),
-        0x0a => memory(word),
         0x0e => barrier(word),
         0x13 => Some(Instruction::Jirl {
             rd: rd(word),
@@ -325,6 +266,43 @@ fn by_highest_bits(word: u32) -> Option<Instruction>
     }
 }
 
+// Arithmetic, the system and memory are told by ten bits, so that one jump finds what programs mostly do.
+fn by_ten_bits(word: u32) -> Option<Instruction>
+    ensures { result ≡ by_highest_bits (word / 2 ^ 26) word }
+{
+    match word >> 22 {
+        0x00 => three_registers(word),
+        0x01 => shifts(word),
+        0x08 => Some(immediate(ImmediateOp::Slti, word)),
+        0x09 => Some(immediate(ImmediateOp::Sltui, word)),
+        0x0a => Some(immediate(ImmediateOp::AddiW, word)),
+        0x0d => Some(immediate(ImmediateOp::Andi, word)),
+        0x0e => Some(immediate(ImmediateOp::Ori, word)),
+        0x0f => Some(immediate(ImmediateOp::Xori, word)),
+        0x10 | 0x11 | 0x12 | 0x13 => Some(csr(word)),
+        0x18 => Some(Instruction::Cacop {
+            code: low_bits(word),
+            rj: rj(word),
+            si12: low_bits(word >> 10),
+        }),
+        0x19 => tlb(word),
+        0xa0 => Some(load(LoadOp::LdB, word)),
+        0xa1 => Some(load(LoadOp::LdH, word)),
+        0xa2 => Some(load(LoadOp::LdW, word)),
+        0xa4 => Some(store(StoreOp::StB, word)),
+        0xa5 => Some(store(StoreOp::StH, word)),
+        0xa6 => Some(store(StoreOp::StW, word)),
+        0xa8 => Some(load(LoadOp::LdBu, word)),
+        0xa9 => Some(load(LoadOp::LdHu, word)),
+        0xab => Some(Instruction::Preld {
+            hint: low_bits(word),
+            rj: rj(word),
+            si12: low_bits(word >> 10),
+        }),
+        _ => by_six_bits(word),
+    }
+}
+
 // The instruction whose word this is, or nothing: a word of no row of the table is undefined.
 #[tactic(auto, using(crate::proofs::Law::exact), unfolding(crate::specs::Decoding::decode_of))]
 pub fn decode(word: u32) -> Option<Instruction>
@@ -332,5 +310,5 @@ pub fn decode(word: u32) -> Option<Instruction>
     ensures words { HaveWords }
     ensures value { result ≡ decode_of word }
 {
-    by_highest_bits(word)
+    by_ten_bits(word)
 }
