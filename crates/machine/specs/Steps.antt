@@ -3,7 +3,7 @@ use Rattle.std.specs.Prelude.{◌≡◌, ℕ, Some, None, Option, Ok, Err}
 use Rattle.bus.specs.Memory.{Memory}
 use Rattle.machine.specs.declared.answers.RunReport.{RunReport}
 use Rattle.machine.specs.declared.answers.StepRefusal.{StepRefusal}
-use Rattle.machine.specs.declared.stepping.Made.{Made}
+use Rattle.machine.specs.declared.stepping.StepsMade.{StepsMade}
 use Rattle.machine.specs.declared.state.State.{State}
 use Rattle.machine.specs.Outcomes.{Outcome, StepAnswer}
 use Rattle.machine.specs.Step.{step}
@@ -13,7 +13,7 @@ abbrev pub refusal_in : StepAnswer → Option StepRefusal
 refusal_in (Ok e) = None
 refusal_in (Err e) = Some e
 
-abbrev pub report : Made → RunReport
+abbrev pub report : StepsMade → RunReport
 report made = record { steps = made.steps; refusal = refusal_in made.last }
 
 -- a loop of one step comes to what the step does, and leaves alone what that leaves alone

@@ -30,7 +30,6 @@ fn misalignment(kind: AccessKind, at: VirtAddr) -> Exception
 }
 
 impl CachedState {
-    // The access type is not used, there being no cache.
     #[inline(always)]
     pub(crate) fn locate(
         &mut self,

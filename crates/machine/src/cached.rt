@@ -64,7 +64,7 @@ impl CachedState {
         }
     }
 
-    // Where an aligned access leads.
+    // Where an aligned access leads. Its access type is not used, there being no cache.
     #[inline(always)]
     pub(crate) fn translate(
         &mut self,
@@ -115,6 +115,7 @@ impl CachedState {
     }
 
     // An exception changes the mode, so nothing is known of it.
+    #[cold]
     pub(crate) fn raise(&mut self, exception: Exception) -> Event
         ensures { settled result self.new ≡ raise self.old exception }
     {

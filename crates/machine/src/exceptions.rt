@@ -7,6 +7,7 @@ use crate::state::State;
 use csr::Exception;
 
 impl State {
+    #[cold]
     pub(crate) fn raise(&mut self, exception: Exception) -> Event
         ensures { settled result self.new ≡ raise self.old exception }
     {

@@ -15,6 +15,7 @@ use operations::{load_result, load_width, store_width};
 use pages::{AccessKind, VirtAddr};
 
 impl CachedState {
+    #[cold]
     pub(crate) fn refusal(&self, kind: AccessKind, by_bus: Refusal) -> StepRefusal
         ensures { result ≡ record { by_bus = by_bus; kind = kind; pc = self.now.user.pc } }
     {

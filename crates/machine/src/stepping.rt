@@ -15,12 +15,12 @@ use bus::Bus;
 
 // How many steps a loop made, and what the last answered; none answers `Done`.
 #[derive(Clone, Copy)]
-pub struct Made {
+pub struct StepsMade {
     pub(crate) steps: u32,
     pub(crate) last: Result<Event, StepRefusal>,
 }
 
-impl Made {
+impl StepsMade {
     pub(crate) fn report(self) -> RunReport
         ensures { result ≡ report self }
     {
@@ -68,7 +68,7 @@ impl CachedState {
     }
 
     // There is one loop behind a step and a run, so that the code of a step stands in a program once, within the loop.
-    pub(crate) fn steps<B: Bus>(&mut self, bus: &mut B, count: u32, levels: u8) -> Made
+    pub(crate) fn steps<B: Bus>(&mut self, bus: &mut B, count: u32, levels: u8) -> StepsMade
         ensures value { outcome (report result) self.new (B.byte bus.new) ≡ run_of count levels self.old (B.byte bus.old) }
         ensures kept { B.layout bus.new ≡ B.layout bus.old }
         ensures untouched { NoStepFetches count levels self.old (B.byte bus.old) → bus.new ≡ bus.old }
@@ -79,14 +79,14 @@ impl CachedState {
             match self.step(bus, levels) {
                 Ok(event) => last = event,
                 Err(refusal) => {
-                    return Made {
+                    return StepsMade {
                         steps,
                         last: Err(refusal),
                     };
                 }
             }
         }
-        Made {
+        StepsMade {
             steps: count,
             last: Ok(last),
         }
