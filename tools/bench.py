@@ -1,12 +1,13 @@
 #!/usr/bin/env python3
 """Compares the speed of the proved core with that of the second emulator, in one run on this machine.
 
-    (cd crates/tintrun && rt run < stdin); (cd crates/benchlayers && rt run < stdin)    # builds both programs
+    for name in tintrun benchlayers benchruns; do (cd crates/$name && rt run < stdin); done    # builds the programs
     python3 tools/bench.py
 
 The same set-ups go to `tintrun`, on a bank alone, to `benchlayers`, on a bank under a shift and a split, and to the emulator of
-tools/emulator on both boards. All print the listing, in which no run may be cut short. Every program takes every set-up in turn, many
-times; the fastest turn counts, less the fastest of the same set-up with runs of no step.
+tools/emulator on both boards; with long and with short runs they go to `benchruns`, which makes each run a hundred times. No run may be
+cut short. Every program takes every set-up in turn, many times; the fastest turn counts, less the fastest of the same set-up with runs
+of no step.
 """
 import argparse
 import pathlib
@@ -23,8 +24,11 @@ import benchmarks  # noqa: E402
 
 LONGEST_RUN = 65_536
 
-BANK, LAYERS = "tintrun", "benchlayers"
+BANK, LAYERS, REPEATED = "tintrun", "benchlayers", "benchruns"
 OTHER_BANK, OTHER_LAYERS = "emulator", "emulator under layers"
+
+# How often `benchruns` makes each run.
+TIMES = 100
 
 
 class Runs(NamedTuple):
@@ -44,13 +48,9 @@ class Runs(NamedTuple):
         """A set-up that makes the runs, behind the lines that write a program."""
         return (lines + f"g,{self.length}\n" * self.count).encode()
 
-    def are_whole(self, listing: bytes) -> bool:
-        """Whether none was refused or cut short, and nothing else was said."""
-        printed = listing.splitlines()
-        return len(printed) == self.count and all(line.startswith(b"run,%d," % self.length) for line in printed)
 
-
-LONG, SHORT = Runs(40, LONGEST_RUN), Runs(4_000, 100)
+LONG = Runs(40, LONGEST_RUN)
+LONG_REPEATED, SHORT_REPEATED = Runs(1, LONGEST_RUN), Runs(655, 100)
 
 
 class Job(NamedTuple):
@@ -60,6 +60,20 @@ class Job(NamedTuple):
     name: str
     runs: Runs
 
+    @property
+    def steps(self) -> int:
+        return self.runs.steps * (TIMES if self.by == REPEATED else 1)
+
+    def without_steps(self) -> "Job":
+        return self._replace(runs=self.runs.without_steps())
+
+    def are_whole(self, printed: bytes) -> bool:
+        """Whether no run was refused or cut short, and nothing else was said."""
+        if self.by == REPEATED:
+            return printed == b"%d\n" % self.steps
+        lines = printed.splitlines()
+        return len(lines) == self.runs.count and all(line.startswith(b"run,%d," % self.runs.length) for line in lines)
+
 
 def timed(command: list[str | pathlib.Path], job: Job) -> float:
     """How many seconds a turn of a job takes."""
@@ -67,7 +81,7 @@ def timed(command: list[str | pathlib.Path], job: Job) -> float:
     start = time.perf_counter()
     run = subprocess.run(command, input=text, stdout=subprocess.PIPE, check=True)
     seconds = time.perf_counter() - start
-    if not job.runs.are_whole(run.stdout):
+    if not job.are_whole(run.stdout):
         sys.exit(f"bench: a run of {job.name} was cut short in {job.by}")
     return seconds
 
@@ -87,8 +101,8 @@ class Steps(NamedTuple):
     times: dict[Job, float]
 
     def of(self, by: str, name: str, runs: Runs = LONG) -> float:
-        whole, rest = self.times[Job(by, name, runs)], self.times[Job(by, name, runs.without_steps())]
-        return (whole - rest) / runs.steps * 1e9
+        job = Job(by, name, runs)
+        return (self.times[job] - self.times[job.without_steps()]) / job.steps * 1e9
 
 
 def table(title: str, head: list[str], rows: list[list[str]]) -> None:
@@ -109,9 +123,10 @@ def print_against_emulator(title: str, by: str, other: str, names: list[str], st
 def print_against_itself(names: list[str], steps: Steps) -> None:
     rows = []
     for name in names:
-        bank, layers, short = steps.of(BANK, name), steps.of(LAYERS, name), steps.of(BANK, name, SHORT)
-        rows.append([f"`{name}`", f"{layers / bank:.2f}", f"{short / bank:.2f}"])
-    title = "The time of a step of the proved core, by that on a bank in long runs"
+        layers = steps.of(LAYERS, name) / steps.of(BANK, name)
+        short = steps.of(REPEATED, name, SHORT_REPEATED) / steps.of(REPEATED, name, LONG_REPEATED)
+        rows.append([f"`{name}`", f"{layers:.2f}", f"{short:.2f}"])
+    title = "The time of a step of the proved core, by that on a bank alone, and by that in runs of 65,536"
     table(title, ["program", "under a shift and a split", "in runs of 100"], rows)
 
 
@@ -125,11 +140,13 @@ def main() -> None:
         programs = {
             BANK: [compare.proved_program("tintrun")],
             LAYERS: [compare.proved_program("benchlayers")],
+            REPEATED: [compare.proved_program("benchruns")],
             OTHER_BANK: [emulator, "tintrun"],
             OTHER_LAYERS: [emulator, "layered"],
         }
-        jobs = [Job(by, name, runs) for by in programs for name in chosen.names for runs in (LONG, LONG.without_steps())]
-        jobs += [Job(BANK, name, runs) for name in chosen.names for runs in (SHORT, SHORT.without_steps())]
+        jobs = [Job(by, name, LONG) for by in programs if by != REPEATED for name in chosen.names]
+        jobs += [Job(REPEATED, name, runs) for name in chosen.names for runs in (LONG_REPEATED, SHORT_REPEATED)]
+        jobs += [job.without_steps() for job in jobs]
         steps = Steps(fastest(programs, jobs, chosen.turns))
     print_against_emulator("On a bank alone", BANK, OTHER_BANK, chosen.names, steps)
     print_against_emulator("Under a shift and a split", LAYERS, OTHER_LAYERS, chosen.names, steps)

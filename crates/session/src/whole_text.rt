@@ -19,9 +19,10 @@ use std::io::{Read, Write};
 // The most that is read of a text.
 pub const MOST_BYTES: usize = 65_536;
 
-const BANK: PhysAddr = PhysAddr(0x1c00_0000);
+// The bank of a set-up's board.
+pub const BANK: PhysAddr = PhysAddr(0x1c00_0000);
 
-const BANK_BYTES: usize = 32_768;
+pub const BANK_BYTES: usize = 32_768;
 
 impl<B: Bus> Session<B> {
     // Handles the lines of a text and prints what each writes into the listing.
