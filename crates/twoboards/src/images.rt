@@ -1,33 +1,74 @@
 // What the memories hold when the machines begin: words with the instruction that each is.
 
-// At the reset address. The handlers' addresses go to EENTRY and TLBRENTRY. TLB entry 0 maps two pages of 4 KiB at 0x800000, the first
-// for PLV3 too and the second, a formula book, for PLV0 alone; entry 1 maps one of 2 MiB at 0x400000, which holds the program and
-// cannot be stored to. A window keeps addresses below 0x20000000 as they are in PLV0. Then the program starts in PLV3.
-pub(crate) const START: [u32; 33] = [
-    0x1438_0004, // lu12i.w r4, 114688
-    0x0384_0085, // ori r5, r4, 256
+// An instruction of the first maker's program that may be refused, and what it tries.
+#[derive(Clone, Copy)]
+pub(crate) struct Try {
+    pub(crate) what: &'static str,
+    pub(crate) word: u32,
+}
+
+// At the reset address. The handlers' addresses go to EENTRY and TLBRENTRY. Each maker has an ASID and the pair of pages at 0x400000: its
+// program, which cannot be stored to, and its data, which is the formula book of the second. That one has its valves at 0x800000 too. The
+// supervisor has the book at 0xC00000, for PLV0, and behind it a page that is not valid. A window keeps addresses below 0x20000000 as they
+// are in PLV0. Line 0 wakes the supervisor. Then the first maker's program starts in PLV3.
+pub(crate) const START: [u32; 66] = [
+    0x1438_0005, // lu12i.w r5, 114688
+    0x0388_00a5, // ori r5, r5, 512
     0x0400_3025, // csrwr r5, 0x000C
-    0x0386_0085, // ori r5, r4, 384
+    0x1438_0005, // lu12i.w r5, 114688
+    0x038a_00a5, // ori r5, r5, 640
     0x0402_2025, // csrwr r5, 0x0088
-    0x1401_0006, // lu12i.w r6, 2048
+    0x0280_0406, // addi.w r6, r0, 1
+    0x0400_6026, // csrwr r6, 0x0018
+    0x1400_8006, // lu12i.w r6, 1024
     0x0400_4426, // csrwr r6, 0x0011
-    0x0284_7c06, // addi.w r6, r0, 287
+    0x1403_8006, // lu12i.w r6, 7168
+    0x0384_34c6, // ori r6, r6, 269
     0x0400_4826, // csrwr r6, 0x0012
-    0x0288_4c06, // addi.w r6, r0, 531
+    0x0284_3c06, // addi.w r6, r0, 271
     0x0400_4c26, // csrwr r6, 0x0013
     0x1418_0006, // lu12i.w r6, 49152
     0x0400_4026, // csrwr r6, 0x0010
     0x0648_3000, // tlbwr
+    0x0280_0806, // addi.w r6, r0, 2
+    0x0400_6026, // csrwr r6, 0x0018
     0x1400_8006, // lu12i.w r6, 1024
     0x0400_4426, // csrwr r6, 0x0011
-    0x1400_0406, // lu12i.w r6, 32
-    0x0380_74c6, // ori r6, r6, 29
+    0x1403_8006, // lu12i.w r6, 7168
+    0x0388_34c6, // ori r6, r6, 525
     0x0400_4826, // csrwr r6, 0x0012
-    0x0400_4c20, // csrwr r0, 0x0013
-    0x142a_0006, // lu12i.w r6, 86016
+    0x0288_3c06, // addi.w r6, r0, 527
+    0x0400_4c26, // csrwr r6, 0x0013
+    0x1418_0006, // lu12i.w r6, 49152
     0x0380_04c6, // ori r6, r6, 1
     0x0400_4026, // csrwr r6, 0x0010
     0x0648_3000, // tlbwr
+    0x0280_0806, // addi.w r6, r0, 2
+    0x0400_6026, // csrwr r6, 0x0018
+    0x1401_0006, // lu12i.w r6, 2048
+    0x0400_4426, // csrwr r6, 0x0011
+    0x1402_0006, // lu12i.w r6, 4096
+    0x0380_3cc6, // ori r6, r6, 15
+    0x0400_4826, // csrwr r6, 0x0012
+    0x0400_4c20, // csrwr r0, 0x0013
+    0x1418_0006, // lu12i.w r6, 49152
+    0x0380_08c6, // ori r6, r6, 2
+    0x0400_4026, // csrwr r6, 0x0010
+    0x0648_3000, // tlbwr
+    0x1401_8006, // lu12i.w r6, 3072
+    0x0400_4426, // csrwr r6, 0x0011
+    0x0289_0c06, // addi.w r6, r0, 579
+    0x0400_4826, // csrwr r6, 0x0012
+    0x0281_0006, // addi.w r6, r0, 64
+    0x0400_4c26, // csrwr r6, 0x0013
+    0x1418_0006, // lu12i.w r6, 49152
+    0x0380_0cc6, // ori r6, r6, 3
+    0x0400_4026, // csrwr r6, 0x0010
+    0x0648_3000, // tlbwr
+    0x0280_1006, // addi.w r6, r0, 4
+    0x0400_1026, // csrwr r6, 0x0004
+    0x0280_0406, // addi.w r6, r0, 1
+    0x0400_6026, // csrwr r6, 0x0018
     0x0280_0c06, // addi.w r6, r0, 3
     0x0400_0426, // csrwr r6, 0x0001
     0x1400_8006, // lu12i.w r6, 1024
@@ -39,45 +80,223 @@ pub(crate) const START: [u32; 33] = [
     0x0648_3800, // ertn
 ];
 
-// For every exception but a refill: r20 gets ESTAT, r21 BADV, r22 ERA and r23 Ecode. After a SYSCALL the program goes on at the next
-// instruction; after any other exception the core waits.
-pub(crate) const HANDLER: [u32; 10] = [
+// For every exception but a refill. After a SYSCALL the supervisor waits, and gives the turn to the second maker when it is woken. A fetch
+// that failed goes back to r1, and behind any other instruction the program goes on at the next.
+pub(crate) const HANDLER: [u32; 18] = [
     0x0400_1414, // csrrd r20, 0x0005
     0x0400_1c15, // csrrd r21, 0x0007
     0x0400_1816, // csrrd r22, 0x0006
-    0x0044_c297, // srli.w r23, r20, 16
-    0x0280_2c18, // addi.w r24, r0, 11
-    0x5800_0af8, // beq r23, r24, 8
+    0x0044_c294, // srli.w r20, r20, 16
+    0x0280_2c17, // addi.w r23, r0, 11
+    0x5800_1e97, // beq r20, r23, 28
+    0x5800_12b6, // beq r21, r22, 16
+    0x0280_12d6, // addi.w r22, r22, 4
+    0x0400_1836, // csrwr r22, 0x0006
+    0x0648_3800, // ertn
+    0x0400_1821, // csrwr r1, 0x0006
+    0x0648_3800, // ertn
     0x0648_8000, // idle 0
-    0x0280_12d6, // addi.w r22, r22, 4
-    0x0400_1836, // csrwr r22, 0x0006
+    0x0280_0806, // addi.w r6, r0, 2
+    0x0400_6026, // csrwr r6, 0x0018
+    0x1400_8006, // lu12i.w r6, 1024
+    0x0400_1826, // csrwr r6, 0x0006
     0x0648_3800, // ertn
 ];
 
-// For a refill: the address that is not mapped goes to r25, and the access is passed over, by way of r22.
-pub(crate) const REFILL: [u32; 5] = [
-    0x0400_1c19, // csrrd r25, 0x0007
+// For a refill, in the same way.
+pub(crate) const REFILL: [u32; 8] = [
+    0x0400_1c15, // csrrd r21, 0x0007
     0x0400_1816, // csrrd r22, 0x0006
+    0x5800_12b6, // beq r21, r22, 16
     0x0280_12d6, // addi.w r22, r22, 4
     0x0400_1836, // csrwr r22, 0x0006
     0x0648_3800, // ertn
+    0x0400_1821, // csrwr r1, 0x0006
+    0x0648_3800, // ertn
 ];
 
-// The maker's program: shots for so many litres, stored and reported. Then it tries the book's physical address as its own, and the address
-// at which the supervisor has the book.
-pub(crate) const PROGRAM: [u32; 11] = [
-    0x1401_000a, // lu12i.w r10, 2048
+// The first maker's program: addresses that it knows or guesses, and then the tries.
+pub(crate) const FIRST_PROGRAM: [u32; 7] = [
+    0x1400_004a, // lu12i.w r10, 2
+    0x1400_802b, // lu12i.w r11, 1025
+    0x1401_000c, // lu12i.w r12, 2048
+    0x1420_000d, // lu12i.w r13, 65536
+    0x1438_000e, // lu12i.w r14, 114688
+    0x1400_800f, // lu12i.w r15, 1024
+    0x1401_8010, // lu12i.w r16, 3072
+];
+
+// Each leaves what it learns in r9.
+pub(crate) const TRIES: [Try; 34] = [
+    Try {
+        what: "load at the book's physical address",
+        word: 0x2880_0149, // ld.w r9, r10, 0
+    },
+    Try {
+        what: "load at the address of the other maker's book, where this maker has its own page",
+        word: 0x2880_0169, // ld.w r9, r11, 0
+    },
+    Try {
+        what: "load at the address of the other maker's valves",
+        word: 0x2880_0189, // ld.w r9, r12, 0
+    },
+    Try {
+        what: "load at the valves' physical address",
+        word: 0x2880_01a9, // ld.w r9, r13, 0
+    },
+    Try {
+        what: "load at an address of the supervisor's",
+        word: 0x2880_01c9, // ld.w r9, r14, 0
+    },
+    Try {
+        what: "load at the address where the supervisor has the book",
+        word: 0x2880_0209, // ld.w r9, r16, 0
+    },
+    Try {
+        what: "take the address of a page that is not valid",
+        word: 0x1401_8029, // lu12i.w r9, 3073
+    },
+    Try {
+        what: "load from it",
+        word: 0x2880_0129, // ld.w r9, r9, 0
+    },
+    Try {
+        what: "load at an odd address of the book",
+        word: 0x2880_0549, // ld.w r9, r10, 1
+    },
+    Try {
+        what: "store to the book",
+        word: 0x2980_0149, // st.w r9, r10, 0
+    },
+    Try {
+        what: "store to the valves",
+        word: 0x2980_1189, // st.w r9, r12, 4
+    },
+    Try {
+        what: "store to its own program",
+        word: 0x2980_01e9, // st.w r9, r15, 0
+    },
+    Try {
+        what: "load linked from the book",
+        word: 0x2000_0149, // ll.w r9, r10, 0
+    },
+    Try {
+        what: "store conditional to the book",
+        word: 0x2100_0149, // sc.w r9, r10, 0
+    },
+    Try {
+        what: "jump into the book",
+        word: 0x4c00_0141, // jirl r1, r10, 0
+    },
+    Try {
+        what: "take an odd address of the book",
+        word: 0x0280_0949, // addi.w r9, r10, 2
+    },
+    Try {
+        what: "jump to that address",
+        word: 0x4c00_0121, // jirl r1, r9, 0
+    },
+    Try {
+        what: "cache operation on the book",
+        word: 0x0600_0150, // cacop 16, r10, 0
+    },
+    Try {
+        what: "cache operation on everything",
+        word: 0x0600_0148, // cacop 8, r10, 0
+    },
+    Try {
+        what: "prefetch the book",
+        word: 0x2ac0_0140, // preld 0, r10, 0
+    },
+    Try {
+        what: "read TLBEHI",
+        word: 0x0400_4409, // csrrd r9, 0x0011
+    },
+    Try {
+        what: "open a window",
+        word: 0x0406_0429, // csrwr r9, 0x0181
+    },
+    Try {
+        what: "take the other maker's ASID",
+        word: 0x0400_61e9, // csrxchg r9, r15, 0x0018
+    },
+    Try {
+        what: "search the TLB",
+        word: 0x0648_2800, // tlbsrch
+    },
+    Try {
+        what: "read a TLB entry",
+        word: 0x0648_2c00, // tlbrd
+    },
+    Try {
+        what: "write a TLB entry",
+        word: 0x0648_3000, // tlbwr
+    },
+    Try {
+        what: "fill a TLB entry",
+        word: 0x0648_3400, // tlbfill
+    },
+    Try {
+        what: "empty the TLB",
+        word: 0x0649_8000, // invtlb 0, r0, r0
+    },
+    Try {
+        what: "return as a handler does",
+        word: 0x0648_3800, // ertn
+    },
+    Try {
+        what: "wait for an interrupt",
+        word: 0x0648_8000, // idle 0
+    },
+    Try {
+        what: "an instruction that there is not",
+        word: 0x0000_0000, // undefined
+    },
+    Try {
+        what: "a breakpoint",
+        word: 0x002a_0000, // break 0
+    },
+    Try {
+        what: "read the time",
+        word: 0x0000_6009, // rdcntvl.w r9
+    },
+    Try {
+        what: "end its turn",
+        word: 0x002b_0000, // syscall 0
+    },
+];
+
+// The second maker's program: the channel and the shots of its first formula go to the valves.
+pub(crate) const SECOND_PROGRAM: [u32; 7] = [
+    0x1400_802a, // lu12i.w r10, 1025
     0x2880_0144, // ld.w r4, r10, 0
-    0x2a40_1145, // ld.hu r5, r10, 4
-    0x001c_1486, // mul.w r6, r4, r5
-    0x2980_2146, // st.w r6, r10, 8
+    0x2880_1145, // ld.w r5, r10, 4
+    0x1401_000b, // lu12i.w r11, 2048
+    0x2980_0164, // st.w r4, r11, 0
+    0x2980_1165, // st.w r5, r11, 4
     0x002b_0000, // syscall 0
-    0x1400_004b, // lu12i.w r11, 2
-    0x2880_0168, // ld.w r8, r11, 0
-    0x1401_002c, // lu12i.w r12, 2049
-    0x2880_0187, // ld.w r7, r12, 0
-    0x002a_0000, // break 0
 ];
 
-// Litres, and shots a litre.
-pub(crate) const TINT: [u32; 2] = [0x0000_001f, 0x0000_0138];
+// Where a maker's program lies, by its own addresses, and where the tries begin in the first one's.
+pub(crate) const PROGRAM: u32 = 0x0040_0000;
+
+pub(crate) const FIRST_TRY: u32 = PROGRAM + 4 * 7;
+
+pub(crate) fn tried_words() -> [u32; 34] {
+    let mut words = [0u32; 34];
+    for (word, tried) in words.iter_mut().zip(TRIES.iter()) {
+        *word = tried.word;
+    }
+    words
+}
+
+// The first maker's data.
+pub(crate) const OWN_WORDS: [u32; 1] = [0x0000_001f];
+
+// The formula books: a channel and the shots that it gives, in pairs.
+pub(crate) const LEFT_BOOK: [u32; 4] = [3, 312, 12, 45];
+
+pub(crate) const RIGHT_BOOK: [u32; 4] = [5, 290, 1, 144];
+
+// What the right board's valves had to pour before.
+pub(crate) const RIGHT_ORDER: [u32; 2] = [2, 7];

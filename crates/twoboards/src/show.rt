@@ -1,10 +1,61 @@
 // Calls and answers as text.
+use crate::calls::STEP_CALLS;
+use crate::images::{FIRST_TRY, PROGRAM, TRIES};
+use crate::{BOOK, VALVES};
 use bus::{Access, Bus, PhysAddr};
 use driver::{Answer, Call};
 use machine::{CallRefusal, Event, RunReport, StepRefusal};
-use pages::Half;
+use pages::{Half, VirtAddr};
 use std::io;
 use tlb::Entry;
+use valves::Pour;
+
+// The tries of the first maker's program and the calls of the driver, each with both answers. Other steps are left out.
+pub(crate) fn first_turn(
+    rt: &HostRuntime,
+    calls: &[Call],
+    left: &[Answer],
+    right: &[Answer],
+) -> io::Result<()> {
+    let mut is_shown = false;
+    for (number, (call_made, (one, other))) in calls
+        .iter()
+        .zip(left.iter().zip(right.iter()))
+        .enumerate()
+    {
+        if number >= STEP_CALLS {
+            call(rt, call_made)?;
+            both(rt, one, other)?;
+        } else if let Answer::Pc(at) = one {
+            is_shown = title(rt, *at)?;
+        } else if is_shown {
+            both(rt, one, other)?;
+        }
+    }
+    Ok(())
+}
+
+// What a step is about, if it is a try or the fetch that a jump out of the program makes.
+fn title(rt: &HostRuntime, at: VirtAddr) -> io::Result<bool> {
+    let number = at.0.wrapping_sub(FIRST_TRY) / 4;
+    if let Some(tried) = TRIES.get(number as usize) {
+        println!(rt; "{:08X}: {}", at.0, tried.what)?;
+        Ok(true)
+    } else if at.0 < PROGRAM {
+        println!(rt; "{:08X}: there", at.0)?;
+        Ok(true)
+    } else {
+        Ok(false)
+    }
+}
+
+fn both(rt: &HostRuntime, one: &Answer, other: &Answer) -> io::Result<()> {
+    print!(rt; "    ")?;
+    answer(rt, one)?;
+    print!(rt; " | ")?;
+    answer(rt, other)?;
+    println!(rt; "")
+}
 
 pub(crate) fn call(rt: &HostRuntime, call: &Call) -> io::Result<()> {
     match *call {
@@ -19,15 +70,14 @@ pub(crate) fn call(rt: &HostRuntime, call: &Call) -> io::Result<()> {
 }
 
 pub(crate) fn answer(rt: &HostRuntime, answer: &Answer) -> io::Result<()> {
-    print!(rt; "    ")?;
     match answer {
-        Answer::Reset => println!(rt; "done"),
+        Answer::Reset => print!(rt; "done"),
         Answer::Step(Ok(event)) => show_event(rt, event),
         Answer::Step(Err(refusal)) => step_refusal(rt, refusal),
         Answer::Run(Ok(report)) => run_report(rt, report),
-        Answer::Pc(at) => println!(rt; "{:08X}", at.0),
-        Answer::Register(Ok(value)) => println!(rt; "{value:08X}"),
-        Answer::ControlRegister(Ok(value)) => println!(rt; "{value:08X}"),
+        Answer::Pc(at) => print!(rt; "{:08X}", at.0),
+        Answer::Register(Ok(value)) => print!(rt; "{value:08X}"),
+        Answer::ControlRegister(Ok(value)) => print!(rt; "{value:08X}"),
         Answer::TlbEntry(Ok(entry)) => tlb_entry(rt, entry),
         Answer::Run(Err(refusal)) => call_refusal(rt, refusal),
         Answer::Register(Err(refusal)) => call_refusal(rt, refusal),
@@ -38,18 +88,16 @@ pub(crate) fn answer(rt: &HostRuntime, answer: &Answer) -> io::Result<()> {
 
 fn show_event(rt: &HostRuntime, event: &Event) -> io::Result<()> {
     match event.codes() {
-        Some((ecode, esubcode)) => println!(rt;
-            "exception, Ecode {ecode:X}, EsubCode {esubcode:X}"
-        ),
-        None if *event == Event::Waiting => println!(rt; "waiting"),
-        None => println!(rt; "done"),
+        Some((ecode, esubcode)) => print!(rt; "exception, Ecode {ecode:X}, EsubCode {esubcode:X}"),
+        None if *event == Event::Waiting => print!(rt; "waiting"),
+        None => print!(rt; "done"),
     }
 }
 
 fn step_refusal(rt: &HostRuntime, refusal: &StepRefusal) -> io::Result<()> {
     let by_bus = refusal.by_bus;
     let kind = refusal.kind.number();
-    println!(rt; "{by_bus}, kind {kind}, PC {:08X}", refusal.pc.0)
+    print!(rt; "{by_bus}, kind {kind}, PC {:08X}", refusal.pc.0)
 }
 
 fn run_report(rt: &HostRuntime, report: &RunReport) -> io::Result<()> {
@@ -59,12 +107,12 @@ fn run_report(rt: &HostRuntime, report: &RunReport) -> io::Result<()> {
             print!(rt; ", then ")?;
             step_refusal(rt, &refusal)
         }
-        None => println!(rt; ""),
+        None => Ok(()),
     }
 }
 
 fn call_refusal(rt: &HostRuntime, refusal: &CallRefusal) -> io::Result<()> {
-    println!(rt; "refused {}", refusal.number())
+    print!(rt; "refused {}", refusal.number())
 }
 
 fn tlb_entry(rt: &HostRuntime, entry: &Entry) -> io::Result<()> {
@@ -76,7 +124,7 @@ fn tlb_entry(rt: &HostRuntime, entry: &Entry) -> io::Result<()> {
     )?;
     half(rt, &entry.even)?;
     half(rt, &entry.odd)?;
-    println!(rt; "")
+    Ok(())
 }
 
 fn half(rt: &HostRuntime, half: &Half) -> io::Result<()> {
@@ -88,14 +136,17 @@ fn half(rt: &HostRuntime, half: &Half) -> io::Result<()> {
     )
 }
 
-// The first words of the page at `at`.
-pub(crate) fn book<B: Bus>(
-    rt: &HostRuntime,
-    title: &str,
-    board: &mut B,
-    at: PhysAddr,
-) -> io::Result<()> {
-    print!(rt; "{title}:")?;
+// The first words of the book and the four of the valves.
+pub(crate) fn withheld<B: Bus>(rt: &HostRuntime, side: &str, board: &mut B) -> io::Result<()> {
+    print!(rt; "{side} book")?;
+    words(rt, board, BOOK)?;
+    print!(rt; ", valves")?;
+    words(rt, board, VALVES)?;
+    println!(rt; "")
+}
+
+// Four words from `at` on.
+fn words<B: Bus>(rt: &HostRuntime, board: &mut B, at: PhysAddr) -> io::Result<()> {
     for i in 0..4u32 {
         let word = Access::new(PhysAddr(at.0.wrapping_add(4 * i)), 4);
         match board.read(word) {
@@ -103,5 +154,15 @@ pub(crate) fn book<B: Bus>(
             Err(refusal) => print!(rt; " {refusal}")?,
         }
     }
-    println!(rt; "")
+    Ok(())
+}
+
+// What the dispenser is to pour.
+pub(crate) fn order(rt: &HostRuntime, side: &str, order: Option<Pour>) -> io::Result<()> {
+    match order {
+        Some(Pour { channel, shots }) => {
+            println!(rt; "{side}: the valve of channel {channel} pours {shots} shots")
+        }
+        None => println!(rt; "{side}: no valve pours"),
+    }
 }

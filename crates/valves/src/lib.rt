@@ -1,0 +1,7 @@
+//! A dispenser's valve block, as a paint maker writes a device: a bus of its own, with its own proof.
+#![tactic(auto)]
+
+mod bytes;
+pub mod valves;
+
+pub use valves::{Pour, Status, Valves};
