@@ -6,8 +6,8 @@
 
 The same set-ups go to `tintrun`, on a bank alone, to `benchlayers`, on a bank under a shift and a split, and to the emulator of
 tools/emulator on both boards; with long and with short runs they go to `benchruns`, which makes each run a hundred times. No run may be
-cut short. Every program takes every set-up in turn, many times; the fastest turn counts, less the fastest of the same set-up with runs
-of no step.
+cut short. Every program takes every set-up in turn, many times; the least time counts, minus the least of the same set-up with runs of no
+step, or, of `benchruns`, without runs.
 """
 import argparse
 import pathlib
@@ -22,7 +22,7 @@ import compare
 sys.path.insert(0, str(compare.TOP / "tools" / "programs"))
 import benchmarks  # noqa: E402
 
-LONGEST_RUN = 65_536
+LONGEST_RUN, SHORT_RUN = 65_536, 100
 
 BANK, LAYERS, REPEATED = "tintrun", "benchlayers", "benchruns"
 OTHER_BANK, OTHER_LAYERS = "emulator", "emulator under layers"
@@ -41,16 +41,13 @@ class Runs(NamedTuple):
     def steps(self) -> int:
         return self.count * self.length
 
-    def without_steps(self) -> "Runs":
-        return Runs(self.count, 0)
-
     def text(self, lines: str) -> bytes:
         """A set-up that makes the runs, behind the lines that write a program."""
         return (lines + f"g,{self.length}\n" * self.count).encode()
 
 
 LONG = Runs(40, LONGEST_RUN)
-LONG_REPEATED, SHORT_REPEATED = Runs(1, LONGEST_RUN), Runs(655, 100)
+LONG_REPEATED, SHORT_REPEATED = Runs(1, LONGEST_RUN), Runs(LONGEST_RUN // SHORT_RUN, SHORT_RUN)
 
 
 class Job(NamedTuple):
@@ -65,7 +62,8 @@ class Job(NamedTuple):
         return self.runs.steps * (TIMES if self.by == REPEATED else 1)
 
     def without_steps(self) -> "Job":
-        return self._replace(runs=self.runs.without_steps())
+        """The same but for its steps: with runs of none, or, where the calls count too, without the runs."""
+        return self._replace(runs=Runs(0, 0) if self.by == REPEATED else Runs(self.runs.count, 0))
 
     def are_whole(self, printed: bytes) -> bool:
         """Whether no run was refused or cut short, and nothing else was said."""
@@ -126,8 +124,8 @@ def print_against_itself(names: list[str], steps: Steps) -> None:
         layers = steps.of(LAYERS, name) / steps.of(BANK, name)
         short = steps.of(REPEATED, name, SHORT_REPEATED) / steps.of(REPEATED, name, LONG_REPEATED)
         rows.append([f"`{name}`", f"{layers:.2f}", f"{short:.2f}"])
-    title = "The time of a step of the proved core, by that on a bank alone, and by that in runs of 65,536"
-    table(title, ["program", "under a shift and a split", "in runs of 100"], rows)
+    title = f"The time of a step of the proved core, divided by that on a bank alone, and by that in runs of {LONGEST_RUN}"
+    table(title, ["program", "under a shift and a split", f"in runs of {SHORT_RUN}"], rows)
 
 
 def main() -> None:

@@ -1,4 +1,5 @@
-//! Makes each run of the set-up on standard input many times, and prints the steps of all. For the benchmark.
+//! Makes each run of the set-up on standard input many times, and prints the steps of all. Lines that read a register or have no form are
+//! passed over. For the benchmark.
 #![tactic(auto)]
 
 use bus::{Access, Bus, PhysAddr};
@@ -7,9 +8,10 @@ use parts::Bank;
 use session::{BANK, BANK_BYTES, read_text};
 use setup::{SetupLine, split_line};
 
+// How often each run is made; tools/bench.py counts on it.
 const TIMES: u32 = 100;
 
-// How many steps they make.
+// Makes a run so many times, and gives the steps of all. A refused run makes none.
 fn run_many_times<B: Bus>(core: &mut RunningCore, bus: &mut B, count: u32) -> u64 {
     let mut steps = 0u64;
     for _ in 0..TIMES {
@@ -30,7 +32,7 @@ fn main(rt: HostRuntime) -> anyhow::Result<()> {
     while let Some((line, behind)) = split_line(rest) {
         match SetupLine::read(line) {
             Some(SetupLine::Write { address, word }) => {
-                let _ = bank.write(Access::new(PhysAddr(address.value()), 4), word.value());
+                bank.write(Access::new(PhysAddr(address.value()), 4), word.value())?;
             }
             Some(SetupLine::Run { count }) => {
                 steps = steps.wrapping_add(run_many_times(&mut core, &mut bank, count.value()));

@@ -1,14 +1,21 @@
 // The calls that both machines get.
 use driver::Call;
 
-// So many steps end the first maker's turn.
+// More than the first maker's turn takes; in the last ones the supervisor waits.
 const STEPS: usize = 400;
 
-// For each the PC, the step itself, and the register in which a try leaves what it learns.
+// For each step the PC, the step itself, and what the program has learnt.
 pub(crate) const STEP_CALLS: usize = 3 * STEPS;
 
+// The register in which a try leaves what it learns.
+const LEARNT: u32 = 9;
+
+const OTHER_CALLS: usize = 13;
+
+pub(crate) const CALLS: usize = STEP_CALLS + OTHER_CALLS;
+
 // One run and three read-outs are refused. A step with levels that nothing enables finds the supervisor waiting.
-const OTHERS: [Call; 13] = [
+const OTHERS: [Call; OTHER_CALLS] = [
     Call::Run {
         count: 65_537,
         levels: 0,
@@ -30,11 +37,9 @@ const OTHERS: [Call; 13] = [
     Call::TlbEntry(16),
 ];
 
-pub(crate) const CALLS: usize = STEP_CALLS + 13;
-
 // The first maker's turn, step by step, and calls of every kind while the supervisor waits.
 pub(crate) fn first_turn() -> [Call; CALLS] {
-    let mut calls = [Call::Register(9); CALLS];
+    let mut calls = [Call::Register(LEARNT); CALLS];
     for step in 0..STEPS {
         calls[3 * step] = Call::Pc;
         calls[3 * step + 1] = Call::Step { levels: 0 };

@@ -1,16 +1,26 @@
 // What the memories hold when the machines begin: words with the instruction that each is.
 
-// An instruction of the first maker's program that may be refused, and what it tries.
+// An instruction of the first maker's program, and what it is for.
 #[derive(Clone, Copy)]
 pub(crate) struct Try {
     pub(crate) what: &'static str,
     pub(crate) word: u32,
 }
 
-// At the reset address. The handlers' addresses go to EENTRY and TLBRENTRY. Each maker has an ASID and the pair of pages at 0x400000: its
-// program, which cannot be stored to, and its data, which is the formula book of the second. That one has its valves at 0x800000 too. The
-// supervisor has the book at 0xC00000, for PLV0, and behind it a page that is not valid. A window keeps addresses below 0x20000000 as they
-// are in PLV0. Line 0 wakes the supervisor. Then the first maker's program starts in PLV3.
+// Where each maker's program lies, by its own addresses.
+pub(crate) const PROGRAM: u32 = 0x0040_0000;
+
+// Where the tries begin in the first one's.
+pub(crate) const FIRST_TRY: u32 = PROGRAM + 4 * ADDRESSES as u32;
+
+const ADDRESSES: usize = 7;
+
+const TRY_COUNT: usize = 37;
+
+// At the reset address. EENTRY and TLBRENTRY get the addresses of the two handlers. Each maker has an ASID and the pair of pages at 0x400000:
+// its program, which cannot be stored to, and its data, which is the formula book of the second. That one has its valves at 0x800000 too. For
+// PLV0 the book is at 0x20C00000, with a page behind it that is not valid, and a window keeps addresses below 0x20000000 as they are. Line 0
+// wakes the supervisor. Then the first maker's program starts in PLV3.
 pub(crate) const START: [u32; 66] = [
     0x1438_0005, // lu12i.w r5, 114688
     0x0388_00a5, // ori r5, r5, 512
@@ -55,7 +65,7 @@ pub(crate) const START: [u32; 66] = [
     0x0380_08c6, // ori r6, r6, 2
     0x0400_4026, // csrwr r6, 0x0010
     0x0648_3000, // tlbwr
-    0x1401_8006, // lu12i.w r6, 3072
+    0x1441_8006, // lu12i.w r6, 134144
     0x0400_4426, // csrwr r6, 0x0011
     0x0289_0c06, // addi.w r6, r0, 579
     0x0400_4826, // csrwr r6, 0x0012
@@ -80,8 +90,9 @@ pub(crate) const START: [u32; 66] = [
     0x0648_3800, // ertn
 ];
 
-// For every exception but a refill. After a SYSCALL the supervisor waits, and gives the turn to the second maker when it is woken. A fetch
-// that failed goes back to r1, and behind any other instruction the program goes on at the next.
+// For every exception but a refill. After a SYSCALL the supervisor waits, and gives the turn to the second maker when it is woken. Where BADV
+// is ERA, a fetch failed, and the program goes on at r1; else behind the instruction. r1, r6 and r20 to r23 are not kept, and no register is
+// cleared between the makers: the first has no turn behind the second's.
 pub(crate) const HANDLER: [u32; 18] = [
     0x0400_1414, // csrrd r20, 0x0005
     0x0400_1c15, // csrrd r21, 0x0007
@@ -103,7 +114,7 @@ pub(crate) const HANDLER: [u32; 18] = [
     0x0648_3800, // ertn
 ];
 
-// For a refill, in the same way.
+// For a refill: the same, where r1 and r20 to r22 are not kept.
 pub(crate) const REFILL: [u32; 8] = [
     0x0400_1c15, // csrrd r21, 0x0007
     0x0400_1816, // csrrd r22, 0x0006
@@ -115,19 +126,19 @@ pub(crate) const REFILL: [u32; 8] = [
     0x0648_3800, // ertn
 ];
 
-// The first maker's program: addresses that it knows or guesses, and then the tries.
-pub(crate) const FIRST_PROGRAM: [u32; 7] = [
+// How the first maker's program begins: r10 to r16 get addresses that it knows or guesses. TRIES follow.
+pub(crate) const FIRST_ADDRESSES: [u32; ADDRESSES] = [
     0x1400_004a, // lu12i.w r10, 2
     0x1400_802b, // lu12i.w r11, 1025
     0x1401_000c, // lu12i.w r12, 2048
     0x1420_000d, // lu12i.w r13, 65536
     0x1438_000e, // lu12i.w r14, 114688
     0x1400_800f, // lu12i.w r15, 1024
-    0x1401_8010, // lu12i.w r16, 3072
+    0x1441_8010, // lu12i.w r16, 134144
 ];
 
-// Each leaves what it learns in r9.
-pub(crate) const TRIES: [Try; 34] = [
+// What a try learns, if anything, is in r9 behind it.
+pub(crate) const TRIES: [Try; TRY_COUNT] = [
     Try {
         what: "load at the book's physical address",
         word: 0x2880_0149, // ld.w r9, r10, 0
@@ -154,14 +165,14 @@ pub(crate) const TRIES: [Try; 34] = [
     },
     Try {
         what: "take the address of a page that is not valid",
-        word: 0x1401_8029, // lu12i.w r9, 3073
+        word: 0x1441_8029, // lu12i.w r9, 134145
     },
     Try {
         what: "load from it",
         word: 0x2880_0129, // ld.w r9, r9, 0
     },
     Try {
-        what: "load at an odd address of the book",
+        what: "load at a misaligned address of the book",
         word: 0x2880_0549, // ld.w r9, r10, 1
     },
     Try {
@@ -189,11 +200,11 @@ pub(crate) const TRIES: [Try; 34] = [
         word: 0x4c00_0141, // jirl r1, r10, 0
     },
     Try {
-        what: "take an odd address of the book",
+        what: "take a misaligned address of the book",
         word: 0x0280_0949, // addi.w r9, r10, 2
     },
     Try {
-        what: "jump to that address",
+        what: "jump to it",
         word: 0x4c00_0121, // jirl r1, r9, 0
     },
     Try {
@@ -201,7 +212,7 @@ pub(crate) const TRIES: [Try; 34] = [
         word: 0x0600_0150, // cacop 16, r10, 0
     },
     Try {
-        what: "cache operation on everything",
+        what: "cache operation by index",
         word: 0x0600_0148, // cacop 8, r10, 0
     },
     Try {
@@ -213,12 +224,24 @@ pub(crate) const TRIES: [Try; 34] = [
         word: 0x0400_4409, // csrrd r9, 0x0011
     },
     Try {
-        what: "open a window",
+        what: "take the word of a window for PLV3",
+        word: 0x0280_2409, // addi.w r9, r0, 9
+    },
+    Try {
+        what: "open that window",
         word: 0x0406_0429, // csrwr r9, 0x0181
     },
     Try {
-        what: "take the other maker's ASID",
-        word: 0x0400_61e9, // csrxchg r9, r15, 0x0018
+        what: "take the number of the other maker's ASID",
+        word: 0x0280_0809, // addi.w r9, r0, 2
+    },
+    Try {
+        what: "write it to ASID",
+        word: 0x0400_6029, // csrwr r9, 0x0018
+    },
+    Try {
+        what: "write it to ASID under a mask",
+        word: 0x0400_6129, // csrxchg r9, r9, 0x0018
     },
     Try {
         what: "search the TLB",
@@ -266,6 +289,14 @@ pub(crate) const TRIES: [Try; 34] = [
     },
 ];
 
+pub(crate) fn tried_words() -> [u32; TRY_COUNT] {
+    let mut words = [0u32; TRY_COUNT];
+    for (word, tried) in words.iter_mut().zip(TRIES.iter()) {
+        *word = tried.word;
+    }
+    words
+}
+
 // The second maker's program: the channel and the shots of its first formula go to the valves.
 pub(crate) const SECOND_PROGRAM: [u32; 7] = [
     0x1400_802a, // lu12i.w r10, 1025
@@ -277,26 +308,13 @@ pub(crate) const SECOND_PROGRAM: [u32; 7] = [
     0x002b_0000, // syscall 0
 ];
 
-// Where a maker's program lies, by its own addresses, and where the tries begin in the first one's.
-pub(crate) const PROGRAM: u32 = 0x0040_0000;
-
-pub(crate) const FIRST_TRY: u32 = PROGRAM + 4 * 7;
-
-pub(crate) fn tried_words() -> [u32; 34] {
-    let mut words = [0u32; 34];
-    for (word, tried) in words.iter_mut().zip(TRIES.iter()) {
-        *word = tried.word;
-    }
-    words
-}
-
 // The first maker's data.
 pub(crate) const OWN_WORDS: [u32; 1] = [0x0000_001f];
 
-// The formula books: a channel and the shots that it gives, in pairs.
+// The formula books: channels and shots, in pairs.
 pub(crate) const LEFT_BOOK: [u32; 4] = [3, 312, 12, 45];
 
 pub(crate) const RIGHT_BOOK: [u32; 4] = [5, 290, 1, 144];
 
-// What the right board's valves had to pour before.
+// What the right board's valves pour before the machines begin: a channel and shots.
 pub(crate) const RIGHT_ORDER: [u32; 2] = [2, 7];

@@ -4,35 +4,28 @@
 
 mod calls;
 mod images;
+mod places;
 mod show;
 
 use bus::{Access, Bus, PhysAddr, Refusal, Span};
 use calls::{SECOND_TURN, first_turn};
 use driver::{drive, lockstep};
+use images::{FIRST_TRY, PROGRAM};
 use layers::{Lock, Shift, Split};
 use machine::{RunningCore, UnresetCore};
 use parts::{Bank, Image};
+use places::{
+    BOOK, FIRST_MAKER, HANDLER, PAGE, PAGE_BYTES, REFILL, ROM, ROM_BYTES, SECOND_MAKER, VALVES,
+    valves_span,
+};
 use valves::Valves;
 
-// The first maker's page, and behind it the second maker's formula book.
-const PAGE: PhysAddr = PhysAddr(0x1000);
-
-const BOOK: PhysAddr = PhysAddr(0x2000);
-
-const VALVES: PhysAddr = PhysAddr(0x1000_0000);
-
-const ROM: PhysAddr = PhysAddr(0x1c00_0000);
-
-const PAGE_BYTES: usize = 0x1000;
-
-const ROM_BYTES: usize = 0x3000;
-
 fn main(rt: HostRuntime) -> anyhow::Result<()> {
-    run(&rt)
+    with_left_board(&rt)
 }
 
 // On the left one bank for the page and the book, and a ROM image.
-fn run(rt: &HostRuntime) -> anyhow::Result<()> {
+fn with_left_board(rt: &HostRuntime) -> anyhow::Result<()> {
     let mut pages = [0u8; 2 * PAGE_BYTES];
     let mut rom = [0u8; ROM_BYTES];
     let mut valves = Valves::new();
@@ -43,7 +36,7 @@ fn run(rt: &HostRuntime) -> anyhow::Result<()> {
     let upper = Split::new(ROM, shifted, Image::new(ROM, &rom));
     let mut left = Split::new(VALVES, Bank::new(PAGE, &mut pages), upper);
     with_right_board(rt, &mut left)?;
-    show::order(rt, "left", valves.take_order())?;
+    show::show_order(rt, "left", valves.take_order())?;
     Ok(())
 }
 
@@ -57,28 +50,28 @@ fn with_right_board<L: Bus>(rt: &HostRuntime, left: &mut L) -> anyhow::Result<()
     load(&mut Bank::new(BOOK, &mut book), BOOK, &images::RIGHT_BOOK)?;
     load_rom(&mut rom)?;
     load(&mut valves, PhysAddr(0), &images::RIGHT_ORDER)?;
-    show::order(rt, "right, before", valves.take_order())?;
+    show::show_order(rt, "right, before", valves.take_order())?;
     let locked = Lock::new(Span::new(ROM, ROM_BYTES as u64), Bank::new(ROM, &mut rom));
     let upper = Split::new(ROM, Shift::new(valves_span(), &mut valves), locked);
     let lower = Split::new(BOOK, Bank::new(PAGE, &mut page), Bank::new(BOOK, &mut book));
     let mut right = Split::new(VALVES, lower, upper);
     compare(rt, left, &mut right)?;
-    show::order(rt, "right", valves.take_order())?;
+    show::show_order(rt, "right", valves.take_order())?;
     Ok(())
 }
 
-fn valves_span() -> Span {
-    Span::new(VALVES, 16)
-}
-
+// The supervisor and both programs.
 fn load_rom(rom: &mut [u8]) -> Result<(), Refusal> {
     let mut bank = Bank::new(ROM, rom);
     load(&mut bank, ROM, &images::START)?;
-    load(&mut bank, PhysAddr(0x1c00_0200), &images::HANDLER)?;
-    load(&mut bank, PhysAddr(0x1c00_0280), &images::REFILL)?;
-    load(&mut bank, PhysAddr(0x1c00_1000), &images::FIRST_PROGRAM)?;
-    load(&mut bank, PhysAddr(0x1c00_101c), &images::tried_words())?;
-    load(&mut bank, PhysAddr(0x1c00_2000), &images::SECOND_PROGRAM)
+    load(&mut bank, ROM.wrapping_add(HANDLER), &images::HANDLER)?;
+    load(&mut bank, ROM.wrapping_add(REFILL), &images::REFILL)?;
+    let first = ROM.wrapping_add(FIRST_MAKER);
+    let tries = first.wrapping_add(FIRST_TRY - PROGRAM);
+    load(&mut bank, first, &images::FIRST_ADDRESSES)?;
+    load(&mut bank, tries, &images::tried_words())?;
+    let second = ROM.wrapping_add(SECOND_MAKER);
+    load(&mut bank, second, &images::SECOND_PROGRAM)
 }
 
 // Writes the words from `at` on.
@@ -100,8 +93,8 @@ fn compare<L: Bus, R: Bus>(
     let calls = first_turn();
     let mut left = UnresetCore.reset();
     let mut right = UnresetCore.reset();
-    show::withheld(rt, "left", left_board)?;
-    show::withheld(rt, "right", right_board)?;
+    show::show_withheld(rt, "left", left_board)?;
+    show::show_withheld(rt, "right", right_board)?;
     let (left_answers, right_answers) = lockstep(
         rt.alloc(),
         &mut left,
@@ -110,11 +103,11 @@ fn compare<L: Bus, R: Bus>(
         right_board,
         &calls,
     )?;
-    show::first_turn(rt, &calls, &left_answers, &right_answers)?;
+    show::show_first_turn(rt, &calls, &left_answers, &right_answers)?;
     println!(rt; "answers equal: {}", left_answers == right_answers)?;
     println!(rt; "cores equal: {}", left == right)?;
-    show::withheld(rt, "left", left_board)?;
-    show::withheld(rt, "right", right_board)?;
+    show::show_withheld(rt, "left", left_board)?;
+    show::show_withheld(rt, "right", right_board)?;
     second_turn(rt, "left", &mut left, left_board)?;
     second_turn(rt, "right", &mut right, right_board)
 }
@@ -128,9 +121,9 @@ fn second_turn<B: Bus>(
     let answers = drive(rt.alloc(), core, board, &SECOND_TURN)?;
     println!(rt; "{side}, the second maker's turn")?;
     for (call, answer) in SECOND_TURN.iter().zip(answers.iter()) {
-        show::call(rt, call)?;
+        show::show_call(rt, call)?;
         print!(rt; "    ")?;
-        show::answer(rt, answer)?;
+        show::show_answer(rt, answer)?;
         println!(rt; "")?;
     }
     Ok(())

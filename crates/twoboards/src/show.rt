@@ -1,7 +1,7 @@
 // Calls and answers as text.
 use crate::calls::STEP_CALLS;
 use crate::images::{FIRST_TRY, PROGRAM, TRIES};
-use crate::{BOOK, VALVES};
+use crate::places::{BOOK, VALVES};
 use bus::{Access, Bus, PhysAddr};
 use driver::{Answer, Call};
 use machine::{CallRefusal, Event, RunReport, StepRefusal};
@@ -11,53 +11,52 @@ use tlb::Entry;
 use valves::Pour;
 
 // The tries of the first maker's program and the calls of the driver, each with both answers. Other steps are left out.
-pub(crate) fn first_turn(
+pub(crate) fn show_first_turn(
     rt: &HostRuntime,
     calls: &[Call],
     left: &[Answer],
     right: &[Answer],
 ) -> io::Result<()> {
     let mut is_shown = false;
-    for (number, (call_made, (one, other))) in calls
+    for (number, (call, (one, other))) in calls
         .iter()
         .zip(left.iter().zip(right.iter()))
         .enumerate()
     {
         if number >= STEP_CALLS {
-            call(rt, call_made)?;
-            both(rt, one, other)?;
+            show_call(rt, call)?;
+            show_both(rt, one, other)?;
         } else if let Answer::Pc(at) = one {
-            is_shown = title(rt, *at)?;
+            let subject = subject_of(*at);
+            is_shown = subject.is_some();
+            if let Some(subject) = subject {
+                println!(rt; "{:08X}: {subject}", at.0)?;
+            }
         } else if is_shown {
-            both(rt, one, other)?;
+            show_both(rt, one, other)?;
         }
     }
     Ok(())
 }
 
-// What a step is about, if it is a try or the fetch that a jump out of the program makes.
-fn title(rt: &HostRuntime, at: VirtAddr) -> io::Result<bool> {
-    let number = at.0.wrapping_sub(FIRST_TRY) / 4;
-    if let Some(tried) = TRIES.get(number as usize) {
-        println!(rt; "{:08X}: {}", at.0, tried.what)?;
-        Ok(true)
-    } else if at.0 < PROGRAM {
-        println!(rt; "{:08X}: there", at.0)?;
-        Ok(true)
-    } else {
-        Ok(false)
+// What a step is for, if it is a try or a fetch below the programs, where a try has jumped to.
+fn subject_of(at: VirtAddr) -> Option<&'static str> {
+    if at.0 < PROGRAM {
+        return Some("the fetch at that address");
     }
+    let number = at.0.wrapping_sub(FIRST_TRY) / 4;
+    TRIES.get(number as usize).map(|tried| tried.what)
 }
 
-fn both(rt: &HostRuntime, one: &Answer, other: &Answer) -> io::Result<()> {
+fn show_both(rt: &HostRuntime, one: &Answer, other: &Answer) -> io::Result<()> {
     print!(rt; "    ")?;
-    answer(rt, one)?;
+    show_answer(rt, one)?;
     print!(rt; " | ")?;
-    answer(rt, other)?;
+    show_answer(rt, other)?;
     println!(rt; "")
 }
 
-pub(crate) fn call(rt: &HostRuntime, call: &Call) -> io::Result<()> {
+pub(crate) fn show_call(rt: &HostRuntime, call: &Call) -> io::Result<()> {
     match *call {
         Call::Reset => println!(rt; "reset"),
         Call::Step { levels } => println!(rt; "step, levels {levels:02X}"),
@@ -69,20 +68,20 @@ pub(crate) fn call(rt: &HostRuntime, call: &Call) -> io::Result<()> {
     }
 }
 
-pub(crate) fn answer(rt: &HostRuntime, answer: &Answer) -> io::Result<()> {
+pub(crate) fn show_answer(rt: &HostRuntime, answer: &Answer) -> io::Result<()> {
     match answer {
         Answer::Reset => print!(rt; "done"),
         Answer::Step(Ok(event)) => show_event(rt, event),
-        Answer::Step(Err(refusal)) => step_refusal(rt, refusal),
-        Answer::Run(Ok(report)) => run_report(rt, report),
+        Answer::Step(Err(refusal)) => show_step_refusal(rt, refusal),
+        Answer::Run(Ok(report)) => show_run_report(rt, report),
         Answer::Pc(at) => print!(rt; "{:08X}", at.0),
         Answer::Register(Ok(value)) => print!(rt; "{value:08X}"),
         Answer::ControlRegister(Ok(value)) => print!(rt; "{value:08X}"),
-        Answer::TlbEntry(Ok(entry)) => tlb_entry(rt, entry),
-        Answer::Run(Err(refusal)) => call_refusal(rt, refusal),
-        Answer::Register(Err(refusal)) => call_refusal(rt, refusal),
-        Answer::ControlRegister(Err(refusal)) => call_refusal(rt, refusal),
-        Answer::TlbEntry(Err(refusal)) => call_refusal(rt, refusal),
+        Answer::TlbEntry(Ok(entry)) => show_tlb_entry(rt, entry),
+        Answer::Run(Err(refusal))
+        | Answer::Register(Err(refusal))
+        | Answer::ControlRegister(Err(refusal))
+        | Answer::TlbEntry(Err(refusal)) => show_call_refusal(rt, refusal),
     }
 }
 
@@ -94,40 +93,39 @@ fn show_event(rt: &HostRuntime, event: &Event) -> io::Result<()> {
     }
 }
 
-fn step_refusal(rt: &HostRuntime, refusal: &StepRefusal) -> io::Result<()> {
+fn show_step_refusal(rt: &HostRuntime, refusal: &StepRefusal) -> io::Result<()> {
     let by_bus = refusal.by_bus;
     let kind = refusal.kind.number();
     print!(rt; "{by_bus}, kind {kind}, PC {:08X}", refusal.pc.0)
 }
 
-fn run_report(rt: &HostRuntime, report: &RunReport) -> io::Result<()> {
+fn show_run_report(rt: &HostRuntime, report: &RunReport) -> io::Result<()> {
     print!(rt; "{} steps", report.steps)?;
     match report.refusal {
         Some(refusal) => {
             print!(rt; ", then ")?;
-            step_refusal(rt, &refusal)
+            show_step_refusal(rt, &refusal)
         }
         None => Ok(()),
     }
 }
 
-fn call_refusal(rt: &HostRuntime, refusal: &CallRefusal) -> io::Result<()> {
+fn show_call_refusal(rt: &HostRuntime, refusal: &CallRefusal) -> io::Result<()> {
     print!(rt; "refused {}", refusal.number())
 }
 
-fn tlb_entry(rt: &HostRuntime, entry: &Entry) -> io::Result<()> {
+fn show_tlb_entry(rt: &HostRuntime, entry: &Entry) -> io::Result<()> {
     let vppn = entry.vppn.value();
     let size = entry.page_size.number();
     print!(rt;
         "VPPN {vppn:05X}, PS {size}, E {}, G {}",
         entry.exists, entry.global
     )?;
-    half(rt, &entry.even)?;
-    half(rt, &entry.odd)?;
-    Ok(())
+    show_half(rt, &entry.even)?;
+    show_half(rt, &entry.odd)
 }
 
-fn half(rt: &HostRuntime, half: &Half) -> io::Result<()> {
+fn show_half(rt: &HostRuntime, half: &Half) -> io::Result<()> {
     let frame = half.frame.0.value();
     let plv = half.plv.value();
     print!(rt;
@@ -137,16 +135,16 @@ fn half(rt: &HostRuntime, half: &Half) -> io::Result<()> {
 }
 
 // The first words of the book and the four of the valves.
-pub(crate) fn withheld<B: Bus>(rt: &HostRuntime, side: &str, board: &mut B) -> io::Result<()> {
+pub(crate) fn show_withheld<B: Bus>(rt: &HostRuntime, side: &str, board: &mut B) -> io::Result<()> {
     print!(rt; "{side} book")?;
-    words(rt, board, BOOK)?;
+    show_words(rt, board, BOOK)?;
     print!(rt; ", valves")?;
-    words(rt, board, VALVES)?;
+    show_words(rt, board, VALVES)?;
     println!(rt; "")
 }
 
 // Four words from `at` on.
-fn words<B: Bus>(rt: &HostRuntime, board: &mut B, at: PhysAddr) -> io::Result<()> {
+fn show_words<B: Bus>(rt: &HostRuntime, board: &mut B, at: PhysAddr) -> io::Result<()> {
     for i in 0..4u32 {
         let word = Access::new(PhysAddr(at.0.wrapping_add(4 * i)), 4);
         match board.read(word) {
@@ -158,7 +156,7 @@ fn words<B: Bus>(rt: &HostRuntime, board: &mut B, at: PhysAddr) -> io::Result<()
 }
 
 // What the dispenser is to pour.
-pub(crate) fn order(rt: &HostRuntime, side: &str, order: Option<Pour>) -> io::Result<()> {
+pub(crate) fn show_order(rt: &HostRuntime, side: &str, order: Option<Pour>) -> io::Result<()> {
     match order {
         Some(Pour { channel, shots }) => {
             println!(rt; "{side}: the valve of channel {channel} pours {shots} shots")

@@ -9,9 +9,9 @@ use Rattle.bus.specs.Cell.{writable}
 use Rattle.bus.specs.Memory.{Memory, aligned, within, is_absent, held, byte_of, read_of, write_of, put, value_at}
 use Rattle.bus.specs.Width.{width_bytes}
 use Rattle.bus.proofs.Accesses.{within_bounds, write_writable, Written, written_by}
-use Rattle.valves.specs.Valves.{bytes_from, spliced, word_of}
+use Rattle.valves.specs.Bytes.{bytes_from, spliced, word_of}
 
--- the bytes of a word, read together
+-- two bytes of a word, taken together
 half_read : (w f : ℕ) → f % 2 ≡ 0 → f < 4 → byte_of w f + 256 * (byte_of w (suc f) + 256 * 0) ≡ bytes_from w f 2
 half_read w zero e l = omega arith
 half_read w (suc zero) e l = absurd (omega arith)
@@ -19,7 +19,7 @@ half_read w (suc (suc zero)) e l = omega arith
 half_read w (suc (suc (suc zero))) e l = absurd (omega arith)
 half_read w (suc (suc (suc (suc f)))) e l = absurd (omega arith)
 
--- the word of which the word at a is a part holds w
+-- the aligned word around address a holds w
 abbrev pub Holds : Memory → ℕ → ℕ → Type 0
 Holds m w a = (x : ℕ) → x / 4 ≡ a / 4 → (is_absent (m x) ≡ false) × (held (m x) ≡ byte_of w (x % 4))
 

@@ -1,15 +1,16 @@
 // The bytes of a register that an access names.
 ghost use Rattle.std.specs.Prelude.{◌≡◌, ◌+◌, ◌≤◌, ◌%◌};
 ghost use Rattle.bus.specs.Width.{width_bytes};
-ghost use Rattle.valves.specs.Valves.{bytes_from, spliced, word_of};
+ghost use Rattle.valves.specs.Bytes.{bytes_from, spliced, word_of};
 
 use bus::Width;
 
-// The bytes from the one of number `first` on.
-pub(crate) fn named(word: u32, first: u32, width: Width) -> u32
+// The number in the bytes that an access names, of which `first` is the lowest.
+pub(crate) fn bytes_named(word: u32, first: u32, width: Width) -> u32
     requires { first + width_bytes width ≤ 4 }
     ensures { result ≡ bytes_from word first (width_bytes width) }
 {
+    // By cases, so that each shift is by a number that is known.
     let shifted = match first {
         0 => word,
         1 => word >> 8,
@@ -24,7 +25,7 @@ pub(crate) fn named(word: u32, first: u32, width: Width) -> u32
 }
 
 // The word with those bytes replaced by the low ones of `value`.
-pub(crate) fn with_named(word: u32, first: u32, width: Width, value: u32) -> u32
+pub(crate) fn with_bytes_named(word: u32, first: u32, width: Width, value: u32) -> u32
     requires inside { first + width_bytes width ≤ 4 }
     requires aligned { first % width_bytes width ≡ 0 }
     ensures { result ≡ word_of (spliced word first (width_bytes width) value) }

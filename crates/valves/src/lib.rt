@@ -4,4 +4,4 @@
 mod bytes;
 pub mod valves;
 
-pub use valves::{Pour, Status, Valves};
+pub use valves::{BYTES, Pour, Valves};

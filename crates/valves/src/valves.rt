@@ -1,23 +1,26 @@
 // The valve block: a program orders a pour, and the dispenser's own software carries it out between two runs.
-ghost use Rattle.std.specs.Prelude.{◌≡◌, []};
-ghost use Rattle.valves.specs.Valves.{status_number, valve_cells, valves_sound, at_rest, pour_of, after_pour};
+ghost use Rattle.std.specs.Prelude.{◌≡◌, [], IfSome};
+ghost use Rattle.valves.specs.Valves.{status_number, valve_cells, valves_sound, at_rest, pour_of, after_pour, Ordered};
 
-use crate::bytes::{named, with_named};
+use crate::bytes::{bytes_named, with_bytes_named};
 use bus::{Access, Bus, Refusal};
 
-// One valve for each.
-pub const CHANNELS: u32 = 16;
+// How many addresses a valve block has.
+pub const BYTES: u64 = 16;
 
-// What became of the last order.
+// How many channels there are; each has a valve.
+const CHANNELS: u32 = 16;
+
+// What became of the last order that was taken, `Ready` before the first.
 #[derive(Clone, Copy, PartialEq, Eq, Debug)]
-pub enum Status {
+pub(crate) enum Status {
     Ready,
     Poured,
     NoChannel,
 }
 
 impl Status {
-    pub fn number(self) -> u32
+    pub(crate) fn number(self) -> u32
         ensures { result ≡ status_number self }
     {
         match self {
@@ -28,7 +31,7 @@ impl Status {
     }
 }
 
-// How many shots a valve is to give.
+// A channel, and how many shots its valve is to give.
 #[derive(Clone, Copy, PartialEq, Eq, Debug)]
 pub struct Pour {
     pub channel: u32,
@@ -56,9 +59,10 @@ impl Valves {
         }
     }
 
-    // Takes the order, if there is one. What is poured counts to the greatest number and stays there.
+    // What is to be poured, if anything is. An order that was taken is gone, also one for no channel.
     pub fn take_order(&mut self) -> Option<Pour>
         ensures value { result ≡ pour_of self.old }
+        ensures ordered { IfSome result (λ pour. Ordered (valve_cells self.old) pour) }
         ensures after { self.new ≡ after_pour self.old }
     {
         if self.shots == 0 {
@@ -94,15 +98,15 @@ impl Bus for Valves {
             3 => self.status.number(),
             _ => return Err(Refusal::Absent(access.at)),
         };
-        Ok(named(word, access.at.0 % 4, width))
+        Ok(bytes_named(word, access.at.0 % 4, width))
     }
 
     fn write(&mut self, access: Access, value: u32) -> Result<(), Refusal> {
         let width = access.check()?;
         let first = access.at.0 % 4;
         match access.at.0 / 4 {
-            0 => self.channel = with_named(self.channel, first, width, value),
-            1 => self.shots = with_named(self.shots, first, width, value),
+            0 => self.channel = with_bytes_named(self.channel, first, width, value),
+            1 => self.shots = with_bytes_named(self.shots, first, width, value),
             2 | 3 => return Err(Refusal::Fixed(access.at)),
             _ => return Err(Refusal::Absent(access.at)),
         }

@@ -23,4 +23,4 @@ returns-clause-value c =
       | in-3 arm ↦ λ x e. let cell = status_cell v x (e ∙ arm.in-3.is) in (ap is_absent cell, ap held cell ∙ ap (λ y. byte_of y (x % 4)) (sym arm.number-word.ensures ∙ sym arm.word-is))
     ] in
     let fit : aligned a (width_bytes c.in_ok-width.width) ≡ true = ap (aligned a) width.1 ∙ width.0 in
-    ap Ok c.named.ensures ∙ sym (ap (read_of (valve_cells v) a) (sym width.1) ∙ word_read (valve_cells v) w a c.in_ok-width.width fit holds)
+    ap Ok c.bytes_named.ensures ∙ sym (ap (read_of (valve_cells v) a) (sym width.1) ∙ word_read (valve_cells v) w a c.in_ok-width.width fit holds)
