@@ -6,8 +6,7 @@
 
 The same set-ups go to `tintrun`, on a bank alone, to `benchlayers`, on a bank under a shift and a split, and to the emulator of
 tools/emulator on both boards; with long and with short runs they go to `benchruns`, which makes each run a hundred times. No run may be
-cut short. Every program takes every set-up in turn, many times; the least time counts, minus the least of the same set-up with runs of no
-step, or, of `benchruns`, without runs.
+cut short. Every program takes every set-up in turn, many times; the least time counts, minus the least of the same set-up without runs.
 """
 import argparse
 import pathlib
@@ -61,9 +60,8 @@ class Job(NamedTuple):
     def steps(self) -> int:
         return self.runs.steps * (TIMES if self.by == REPEATED else 1)
 
-    def without_steps(self) -> "Job":
-        """The same but for its steps: with runs of none, or, where the calls count too, without the runs."""
-        return self._replace(runs=Runs(0, 0) if self.by == REPEATED else Runs(self.runs.count, 0))
+    def without_runs(self) -> "Job":
+        return self._replace(runs=Runs(0, 0))
 
     def are_whole(self, printed: bytes) -> bool:
         """Whether no run was refused or cut short, and nothing else was said."""
@@ -100,7 +98,7 @@ class Steps(NamedTuple):
 
     def of(self, by: str, name: str, runs: Runs = LONG) -> float:
         job = Job(by, name, runs)
-        return (self.times[job] - self.times[job.without_steps()]) / job.steps * 1e9
+        return (self.times[job] - self.times[job.without_runs()]) / job.steps * 1e9
 
 
 def table(title: str, head: list[str], rows: list[list[str]]) -> None:
@@ -144,7 +142,7 @@ def main() -> None:
         }
         jobs = [Job(by, name, LONG) for by in programs if by != REPEATED for name in chosen.names]
         jobs += [Job(REPEATED, name, runs) for name in chosen.names for runs in (LONG_REPEATED, SHORT_REPEATED)]
-        jobs += [job.without_steps() for job in jobs]
+        jobs += [job.without_runs() for job in jobs]
         steps = Steps(fastest(programs, jobs, chosen.turns))
     print_against_emulator("On a bank alone", BANK, OTHER_BANK, chosen.names, steps)
     print_against_emulator("Under a shift and a split", LAYERS, OTHER_LAYERS, chosen.names, steps)
