@@ -7,8 +7,8 @@ use Rattle.bus.specs.declared.access.Width.{Width}
 use Rattle.bus.specs.declared.access.Width.TheVariants.{Byte, Half, Word}
 use Rattle.bus.specs.Cell.{writable}
 use Rattle.bus.specs.Memory.{Memory, aligned, within, is_absent, held, byte_of, read_of, write_of, put, value_at}
-use Rattle.bus.specs.Width.{width_bytes}
-use Rattle.bus.proofs.Accesses.{within_bounds, write_writable, Written, written_by}
+use Rattle.bus.specs.Width.{width_bytes, access_check}
+use Rattle.bus.proofs.Accesses.{within_bounds, access_checked, write_writable, Written, written_by}
 use Rattle.valves.specs.Bytes.{bytes_from, spliced, word_of}
 
 -- two bytes of a word, taken together
@@ -70,11 +70,21 @@ byte_of_word f small (suc (suc (suc (suc k)))) l = absurd (omega arith)
 spliced_small : (w f n v k : ℕ) → spliced w f n v k < 256
 spliced_small w f n v k = cond_both (within f n k) _ _ (λ b. b < 256) (λ _. omega arith) (λ _. omega arith)
 
--- memories before and after, where the word at a is open, holds w before, and differs by what a write splices in
-module _ (m after : Memory) (w a n v : ℕ) (fit : aligned a n ≡ true)
+-- an access of n bytes at a that writes v, and memories before and after: the word around a is open, and holds w and then w' with v spliced in
+module _ (m after : Memory) (w w' a n v : ℕ) (width : Width) (checked : Ok width ≡ access_check a n)
+    (made : w' ≡ word_of (spliced w (a % 4) (width_bytes width) v))
     (before_in : (x : ℕ) → x / 4 ≡ a / 4 → m x ≡ writable (byte_of w (x % 4)))
-    (after_in : (x : ℕ) → x / 4 ≡ a / 4 → after x ≡ writable (byte_of (word_of (spliced w (a % 4) n v)) (x % 4)))
+    (after_in : (x : ℕ) → x / 4 ≡ a / 4 → after x ≡ writable (byte_of w' (x % 4)))
     (elsewhere : (x : ℕ) → (x / 4 ≡ a / 4 → ⊥) → after x ≡ m x) where
+  fit : aligned a n ≡ true
+  fit = (access_checked a n width checked).0
+
+  bytes_after : (x : ℕ) → x / 4 ≡ a / 4 → after x ≡ writable (spliced w (a % 4) n v (x % 4))
+  bytes_after x same =
+      let word : w' ≡ word_of (spliced w (a % 4) n v) = made ∙ ap (λ k. word_of (spliced w (a % 4) k v)) (access_checked a n width checked).1 in
+      after_in x same
+      ∙ ap writable (ap (λ y. byte_of y (x % 4)) word ∙ byte_of_word (spliced w (a % 4) n v) (spliced_small w (a % 4) n v) (x % 4) (omega arith))
+
   stays : (x : ℕ) → a ≤ x → x < a + n → x / 4 ≡ a / 4
   stays x l u = grind (arith, nat_tests)
 
@@ -87,8 +97,7 @@ module _ (m after : Memory) (w a n v : ℕ) (fit : aligned a n ≡ true)
       let same : x / 4 ≡ a / 4 = stays x p.0 p.1 in
       let named : within (a % 4) n (x % 4) ≡ true = grind (arith, nat_tests) in
       let far : x % 4 - a % 4 ≡ x - a = omega arith in
-      after_in x same
-      ∙ ap writable (byte_of_word (spliced w (a % 4) n v) (spliced_small w (a % 4) n v) (x % 4) (omega arith) ∙ cond-true _ _ _ named ∙ ap (byte_of v) far)
+      bytes_after x same ∙ ap writable (cond-true _ _ _ named ∙ ap (byte_of v) far)
 
   outside : (x : ℕ) → within a n x ≡ false → after x ≡ m x
   outside x t = go (eqb (x / 4) (a / 4)) refl
@@ -97,9 +106,7 @@ module _ (m after : Memory) (w a n v : ℕ) (fit : aligned a n ≡ true)
       go true e =
           let q : x / 4 ≡ a / 4 = (Decides-eqb (x / 4) (a / 4)).0 e in
           let other : within (a % 4) n (x % 4) ≡ false = grind (arith, nat_tests) in
-          after_in x q
-          ∙ ap writable (byte_of_word (spliced w (a % 4) n v) (spliced_small w (a % 4) n v) (x % 4) (omega arith) ∙ cond-false _ _ _ other)
-          ∙ sym (before_in x q)
+          bytes_after x q ∙ ap writable (cond-false _ _ _ other) ∙ sym (before_in x q)
       go false e = elsewhere x (λ q. let z : eqb (x / 4) (a / 4) ≡ true = (Decides-eqb (x / 4) (a / 4)).1 q in absurd cc)
 
   replaced : after ≡ put m a n v
