@@ -14,6 +14,7 @@ import subprocess
 import sys
 import tempfile
 import time
+from collections.abc import Callable
 from typing import NamedTuple
 
 import compare
@@ -22,9 +23,6 @@ sys.path.insert(0, str(compare.TOP / "tools" / "programs"))
 import benchmarks  # noqa: E402
 
 LONGEST_RUN, SHORT_RUN = 65_536, 100
-
-BANK, LAYERS, REPEATED = "tintrun", "benchlayers", "benchruns"
-OTHER_BANK, OTHER_LAYERS = "emulator", "emulator under layers"
 
 # How often `benchruns` makes each run.
 TIMES = 100
@@ -49,26 +47,49 @@ LONG = Runs(40, LONGEST_RUN)
 LONG_REPEATED, SHORT_REPEATED = Runs(1, LONGEST_RUN), Runs(LONGEST_RUN // SHORT_RUN, SHORT_RUN)
 
 
+def all_listed(runs: Runs, printed: bytes) -> bool:
+    """Whether a listing has a line of each run, none refused or cut short, and nothing else."""
+    lines = printed.splitlines()
+    return len(lines) == runs.count and all(line.startswith(b"run,%d," % runs.length) for line in lines)
+
+
+def all_counted(runs: Runs, printed: bytes) -> bool:
+    """Whether the steps of all runs, each made `TIMES` times, were printed, and nothing else."""
+    return printed == b"%d\n" % (TIMES * runs.steps)
+
+
+class Timed(NamedTuple):
+    """A program that is timed: how often it makes each run, the runs that it is given, and whether its output shows them whole."""
+
+    name: str
+    times: int
+    given: tuple[Runs, ...]
+    are_whole: Callable[[Runs, bytes], bool]
+
+
+def lister(name: str) -> Timed:
+    """A program that prints the listing of a set-up."""
+    return Timed(name, 1, (LONG,), all_listed)
+
+
+ON_BANK, UNDER_LAYERS = lister("tintrun"), lister("benchlayers")
+OTHER_ON_BANK, OTHER_UNDER_LAYERS = lister("emulator"), lister("emulator under layers")
+REPEATED = Timed("benchruns", TIMES, (LONG_REPEATED, SHORT_REPEATED), all_counted)
+
+
 class Job(NamedTuple):
     """Runs of a benchmark's program by one of the programs that are timed."""
 
-    by: str
+    by: Timed
     name: str
     runs: Runs
 
     @property
     def steps(self) -> int:
-        return self.runs.steps * (TIMES if self.by == REPEATED else 1)
+        return self.runs.steps * self.by.times
 
     def without_runs(self) -> "Job":
         return self._replace(runs=Runs(0, 0))
-
-    def are_whole(self, printed: bytes) -> bool:
-        """Whether no run was refused or cut short, and nothing else was said."""
-        if self.by == REPEATED:
-            return printed == b"%d\n" % self.steps
-        lines = printed.splitlines()
-        return len(lines) == self.runs.count and all(line.startswith(b"run,%d," % self.runs.length) for line in lines)
 
 
 def timed(command: list[str | pathlib.Path], job: Job) -> float:
@@ -77,16 +98,16 @@ def timed(command: list[str | pathlib.Path], job: Job) -> float:
     start = time.perf_counter()
     run = subprocess.run(command, input=text, stdout=subprocess.PIPE, check=True)
     seconds = time.perf_counter() - start
-    if not job.are_whole(run.stdout):
-        sys.exit(f"bench: a run of {job.name} was cut short in {job.by}")
+    if not job.by.are_whole(job.runs, run.stdout):
+        sys.exit(f"bench: a run of {job.name} was cut short in {job.by.name}")
     return seconds
 
 
-def fastest(programs: dict[str, list[str | pathlib.Path]], jobs: list[Job], turns: int) -> dict[Job, float]:
+def fastest(programs: dict[Timed, list[str | pathlib.Path]], jobs: list[Job], turns: int) -> dict[Job, float]:
     """The fastest of several turns of each job. All take turns, so that a slow while of the machine meets all alike."""
     times = dict.fromkeys(jobs, float("inf"))
     for _ in range(turns):
-        for job in jobs:
+        for job in times:
             times[job] = min(times[job], timed(programs[job.by], job))
     return times
 
@@ -96,7 +117,7 @@ class Steps(NamedTuple):
 
     times: dict[Job, float]
 
-    def of(self, by: str, name: str, runs: Runs = LONG) -> float:
+    def of(self, by: Timed, name: str, runs: Runs = LONG) -> float:
         job = Job(by, name, runs)
         return (self.times[job] - self.times[job.without_runs()]) / job.steps * 1e9
 
@@ -108,7 +129,7 @@ def table(title: str, head: list[str], rows: list[list[str]]) -> None:
         print("| " + " | ".join(row) + " |")
 
 
-def print_against_emulator(title: str, by: str, other: str, names: list[str], steps: Steps) -> None:
+def print_against_emulator(title: str, by: Timed, other: Timed, names: list[str], steps: Steps) -> None:
     rows = []
     for name in names:
         core, emulator = steps.of(by, name), steps.of(other, name)
@@ -119,7 +140,7 @@ def print_against_emulator(title: str, by: str, other: str, names: list[str], st
 def print_against_itself(names: list[str], steps: Steps) -> None:
     rows = []
     for name in names:
-        layers = steps.of(LAYERS, name) / steps.of(BANK, name)
+        layers = steps.of(UNDER_LAYERS, name) / steps.of(ON_BANK, name)
         short = steps.of(REPEATED, name, SHORT_REPEATED) / steps.of(REPEATED, name, LONG_REPEATED)
         rows.append([f"`{name}`", f"{layers:.2f}", f"{short:.2f}"])
     title = f"The time of a step of the proved core, divided by that on a bank alone, and by that in runs of {LONGEST_RUN}"
@@ -134,18 +155,15 @@ def main() -> None:
     with tempfile.TemporaryDirectory() as folder:
         emulator = compare.build_emulator(pathlib.Path(folder))
         programs = {
-            BANK: [compare.proved_program("tintrun")],
-            LAYERS: [compare.proved_program("benchlayers")],
-            REPEATED: [compare.proved_program("benchruns")],
-            OTHER_BANK: [emulator, "tintrun"],
-            OTHER_LAYERS: [emulator, "layered"],
+            **{by: [compare.proved_program(by.name)] for by in (ON_BANK, UNDER_LAYERS, REPEATED)},
+            OTHER_ON_BANK: [emulator, "tintrun"],
+            OTHER_UNDER_LAYERS: [emulator, "layered"],
         }
-        jobs = [Job(by, name, LONG) for by in programs if by != REPEATED for name in chosen.names]
-        jobs += [Job(REPEATED, name, runs) for name in chosen.names for runs in (LONG_REPEATED, SHORT_REPEATED)]
+        jobs = [Job(by, name, runs) for by in programs for name in chosen.names for runs in by.given]
         jobs += [job.without_runs() for job in jobs]
         steps = Steps(fastest(programs, jobs, chosen.turns))
-    print_against_emulator("On a bank alone", BANK, OTHER_BANK, chosen.names, steps)
-    print_against_emulator("Under a shift and a split", LAYERS, OTHER_LAYERS, chosen.names, steps)
+    print_against_emulator("On a bank alone", ON_BANK, OTHER_ON_BANK, chosen.names, steps)
+    print_against_emulator("Under a shift and a split", UNDER_LAYERS, OTHER_UNDER_LAYERS, chosen.names, steps)
     print_against_itself(chosen.names, steps)
 
 

@@ -18,6 +18,7 @@ import tempfile
 from typing import NamedTuple
 
 TOP = pathlib.Path(__file__).resolve().parent.parent
+# As many names as one command line takes.
 BATCH = 500
 
 

@@ -13,6 +13,7 @@ import shutil
 import subprocess
 import sys
 import tempfile
+from typing import NamedTuple
 
 import compare
 
@@ -37,8 +38,23 @@ def replace_generated(data: pathlib.Path, folder: pathlib.Path, names: list[str]
         shutil.copy(folder / name, data / name)
 
 
-def place(kind: compare.Kind, folder: pathlib.Path, emulator: pathlib.Path) -> None:
-    """Generates the texts of a kind, asks the emulator, and then replaces the files of the kind's program."""
+class Corpus(NamedTuple):
+    """The texts of a kind's program, of which the generated ones stand in a folder, and what the emulator prints for them."""
+
+    crate: pathlib.Path
+    folder: pathlib.Path
+    generated: list[str]
+    names: list[str]
+    printed: bytes
+
+    def place(self) -> None:
+        replace_generated(self.crate / "data", self.folder, self.generated)
+        (self.crate / "args").write_text("".join(f"{name}\n" for name in self.names))
+        (self.crate / "stdout").write_bytes(self.printed)
+
+
+def make(kind: compare.Kind, folder: pathlib.Path, emulator: pathlib.Path) -> Corpus:
+    """Generates the texts of a kind and asks the emulator."""
     crate = compare.TOP / "crates" / kind.crate
     generated = compare.generate(kind, SEED, COUNTS[kind.name], folder)
     standing = [name for name in (crate / "args").read_text().split() if not GENERATED.fullmatch(name)]
@@ -47,17 +63,16 @@ def place(kind: compare.Kind, folder: pathlib.Path, emulator: pathlib.Path) -> N
     names = standing + generated
     printed = subprocess.run([emulator, kind.mode, *names], cwd=folder, check=True, stdout=subprocess.PIPE).stdout
     refuse_changes(compare.by_name((crate / "stdout").read_bytes()), compare.by_name(printed))
-    replace_generated(crate / "data", folder, generated)
-    (crate / "args").write_text("".join(f"{name}\n" for name in names))
-    (crate / "stdout").write_bytes(printed)
+    return Corpus(crate, folder, generated, names, printed)
 
 
 def main() -> None:
     with tempfile.TemporaryDirectory() as temporary:
         work = pathlib.Path(temporary)
         emulator = compare.build_emulator(work)
-        for kind in compare.KINDS:
-            place(kind, work / kind.name, emulator)
+        # Nothing is written before the texts of both kinds were found to be as they are stored.
+        for corpus in [make(kind, work / kind.name, emulator) for kind in compare.KINDS]:
+            corpus.place()
 
 
 if __name__ == "__main__":

@@ -2,7 +2,7 @@
 
 use std::fmt;
 
-/// Why a bus does not do what it was asked, with the lowest byte at fault.
+/// Why a bus does not do what it was asked, with the lowest byte at fault where one is.
 #[derive(Clone, Copy, Debug, PartialEq, Eq)]
 pub enum Refusal {
     Misaligned,

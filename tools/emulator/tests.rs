@@ -17,11 +17,11 @@ const ERTN: u32 = 0x0648_3800;
 const IDLE: u32 = 0x0648_8000;
 const SYSCALL: u32 = 0x002B_0000;
 
-fn i12(opcode: u32, rd: u32, rj: u32, constant: u32) -> u32 {
+fn with_constant(opcode: u32, rd: u32, rj: u32, constant: u32) -> u32 {
     opcode << 22 | (constant & 0xFFF) << 10 | rj << 5 | rd
 }
 
-fn r3(opcode: u32, rd: u32, rj: u32, rk: u32) -> u32 {
+fn of_registers(opcode: u32, rd: u32, rj: u32, rk: u32) -> u32 {
     opcode << 15 | rk << 10 | rj << 5 | rd
 }
 
@@ -42,11 +42,11 @@ fn invtlb(op: u32, rj: u32, rk: u32) -> u32 {
 }
 
 fn st_w(rd: u32, rj: u32) -> u32 {
-    i12(0b0010100110, rd, rj, 0)
+    with_constant(0b0010100110, rd, rj, 0)
 }
 
 fn ld_w(rd: u32, rj: u32) -> u32 {
-    i12(0b0010100010, rd, rj, 0)
+    with_constant(0b0010100010, rd, rj, 0)
 }
 
 /// A core on the board of a set-up, which executes words one by one where its PC is.
@@ -83,7 +83,7 @@ impl Machine {
     fn result(&mut self, opcode: u32, a: u32, b: u32) -> u32 {
         self.core.set_register(6, a);
         self.core.set_register(7, b);
-        assert_eq!(self.execute(r3(opcode, 5, 6, 7)), Ok(Event::Done));
+        assert_eq!(self.execute(of_registers(opcode, 5, 6, 7)), Ok(Event::Done));
         self.core.register(5)
     }
 
@@ -244,7 +244,7 @@ fn jumps() {
         (machine.core.pc, machine.core.register(1)),
         (RESET_ADDRESS + 0xF8, RESET_ADDRESS + 0x100)
     );
-    // bge r0, r4 is taken as unsigned numbers alone would not be, since r4 is below 0 after this
+    // r4 is negative, so bge r0, r4 is taken, and bgeu is not.
     machine.core.set_register(4, 0x8000_0000);
     machine.execute(0b011001 << 26 | 2 << 10 | 4).unwrap();
     assert_eq!(machine.core.pc, RESET_ADDRESS + 0x100);
@@ -314,7 +314,7 @@ fn timer() {
     machine.write_csr(csr::TCFG, 5);
     assert_eq!(machine.core.csr.read(csr::TVAL), 3);
     for pending in [0, 0, 0x800] {
-        machine.execute(i12(0b0000001101, 0, 0, 0)).unwrap();
+        machine.execute(with_constant(0b0000001101, 0, 0, 0)).unwrap();
         assert_eq!(machine.core.csr.read(csr::ESTAT), pending);
     }
     machine.write_csr(csr::TICLR, 1);
@@ -330,7 +330,7 @@ fn timer() {
     machine.execute(csr_word(csr::TCFG, 2, 3)).unwrap();
     assert_eq!(machine.core.csr.read(csr::TVAL), 3);
     for left in [2, 1, 4, 3] {
-        machine.execute(i12(0b0000001101, 0, 0, 0)).unwrap();
+        machine.execute(with_constant(0b0000001101, 0, 0, 0)).unwrap();
         assert_eq!(machine.core.csr.read(csr::TVAL), left);
     }
     assert_eq!(machine.core.csr.read(csr::ESTAT), 0x800);
@@ -427,7 +427,7 @@ fn link() {
         (1, Ok(7))
     );
     assert_eq!(machine.core.csr.read(csr::LLBCTL), 0);
-    // Misaligned, it is an exception also without the link, and asks no bus where the address is absent.
+    // Without the link the bus is not asked, so an absent address is not refused; a misaligned one is an exception all the same.
     machine.core.set_register(4, 0);
     assert_eq!(machine.execute(sc_w(5, 4)), Ok(Event::Done));
     machine.core.set_register(4, 2);
@@ -444,7 +444,7 @@ fn privilege() {
         (csr_word(0, 0, 4), Cause::PrivilegedInstruction),
         (invtlb(7, 0, 0), Cause::PrivilegedInstruction),
         (
-            i12(0b0000011000, 0b01000, 0, 0),
+            with_constant(0b0000011000, 0b01000, 0, 0),
             Cause::PrivilegedInstruction,
         ),
         (SYSCALL, Cause::SystemCall),
@@ -482,7 +482,7 @@ fn privilege() {
     machine = Machine::new();
     machine.write_csr(csr::CRMD, 0xB);
     assert_eq!(
-        machine.execute(i12(0b0000011000, 0b10111, 0, 3)),
+        machine.execute(with_constant(0b0000011000, 0b10111, 0, 3)),
         Ok(Event::Done)
     );
 }

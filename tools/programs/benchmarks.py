@@ -6,6 +6,7 @@ from collections.abc import Callable
 from random import Random
 
 import control
+import setups
 from assembler import Assembler
 from mapping import Half
 from program import PAGE, RESET
@@ -161,4 +162,4 @@ def lines(name: str) -> str:
     """The lines that write a benchmark's program."""
     asm = Assembler(CODE)
     BENCHMARKS[name](asm)
-    return "".join(f"w,{at:08X},{word:08X}\n" for at, word in sorted(asm.resolve().items()))
+    return "".join(setups.write_line(*item) for item in sorted(asm.resolve().items()))

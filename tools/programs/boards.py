@@ -5,10 +5,10 @@ from __future__ import annotations
 from dataclasses import dataclass, field
 from random import Random
 
+from assembler import WORD_MASK
 from program import PAGE, RESET, Layout, Program
 
 BANK_SIZE, IMAGE_SIZE, PORTS_SIZE = 0x8000, 0x1000, 0x40
-WORD_MASK = 0xFFFFFFFF
 NOWHERE = (0x90000000, 0xE0000000, 0x7FFFFFF0)
 EDGE_STEPS = (-8, -4, -2, -1, 0, 1, 2, 3, 4)
 
@@ -155,6 +155,22 @@ def draw_levels(rng: Random) -> Levels:
     return Levels(rng, rng.choice((False, True)))
 
 
+@dataclass
+class Shows:
+    """Lines that show the core: at a share of the places where one may stand, and at so many at most."""
+
+    rng: Random
+    share: float
+    left: int
+
+    def next(self) -> list[str]:
+        """The line, or none, at the next place."""
+        if self.left == 0 or self.rng.random() >= self.share:
+            return []
+        self.left -= 1
+        return ["d\n"]
+
+
 def read_line(rng: Random, address: int) -> str:
     """A line that reads memory near an address, mostly in a good width."""
     widths = (1, 2, 4, 4, 4, 4) if rng.random() < 0.9 else (0, 3, 8, WORD_MASK)
@@ -178,15 +194,13 @@ def program_lines(program: Program, board: Board) -> list[str]:
 def run_lines(rng: Random, program: Program, levels: Levels) -> list[str]:
     """The lines that make the runs of a program, and show the core a few times."""
     lines: list[str] = []
-    shown = 0
+    shows = Shows(rng, share=0.4, left=3)
     for run in program.runs:
         if run.steps <= 17 and rng.random() < 0.6:
             lines.extend(line("t", levels.next()) for _ in range(run.steps))
         else:
             lines.append(line("g", run.steps, levels.next()))
-        if shown < 3 and rng.random() < 0.4:
-            lines.append("d\n")
-            shown += 1
+        lines += shows.next()
     if rng.random() < 0.04:
         lines.append(line("g", rng.choice((0x10001, 0x10000, WORD_MASK)), levels.next()))
     return [*lines, "d\n"]
@@ -207,7 +221,7 @@ def board_text(rng: Random, program: Program, board: Board) -> bytes:
     runs = run_lines(rng, program, draw_levels(rng))
     if rng.random() < 0.1:
         runs += ["z\n", *run_lines(rng, program, draw_levels(rng))[-4:]]
-    reads = memory_lines(rng, program.memory, rng.randint(2, 8))
+    reads = memory_lines(rng, program.read_at_end, rng.randint(2, 8))
     reads += memory_lines(rng, board.edges(), rng.randint(0, 5))
     parts = board.lines(rng)
     if rng.random() < 0.2:

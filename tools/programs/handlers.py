@@ -9,6 +9,7 @@ change their privilege level.
 
 from __future__ import annotations
 
+from collections.abc import Callable
 from dataclasses import dataclass
 
 import control
@@ -23,47 +24,55 @@ SOMETIMES_READ = (
 
 
 @dataclass(frozen=True)
-class Parts:
+class HandlerParts:
     """What a handler is made of."""
 
     folds: tuple[int, ...]
     interrupts: bool = True
-    limit: int = 12
+    most_interrupts: int = 12
 
 
-def draw_parts(b: Builder, interrupts: bool = True) -> Parts:
+def draw_parts(b: Builder, interrupts: bool = True) -> HandlerParts:
     """Parts of a handler, with the reads in random order."""
     rng = b.rng
     folds = [*ALWAYS_READ, *rng.sample(MOSTLY_READ, rng.choice((1, 2, 3, 4, 4)))]
     if rng.random() < 0.3:
         folds.append(rng.choice(SOMETIMES_READ))
     rng.shuffle(folds)
-    return Parts(tuple(folds), interrupts, limit=rng.choice((3, 6, 12)))
+    return HandlerParts(tuple(folds), interrupts, most_interrupts=rng.choice((3, 6, 12)))
 
 
-def install(b: Builder, parts: Parts | None = None, number: int = control.EENTRY) -> str:
-    """Sets the address of a handler, and has it placed behind the program."""
+def set_up(
+    b: Builder, emit: Callable[[], None], number: int = control.EENTRY, low_bits: int = 0,
+) -> str:
+    """Sets the address of a handler, and has it placed behind the program. Gives its label."""
     label = b.new_label("handler")
-    low_bits = b.rng.choice((0, 0, 0, 4, 0x20, 0x3F, b.rng.getrandbits(6)))
-    b.asm.load_address(b.roles.value, label, low_bits)
-    b.emit("csrwr", b.roles.value, number)
-    chosen = draw_parts(b) if parts is None else parts
-    b.later(lambda: emit_handler(b, label, chosen))
+    b.write_address(number, label, low_bits)
+
+    def place() -> None:
+        b.asm.align(64)
+        b.asm.label(label)
+        emit()
+
+    b.later(place)
     return label
 
 
-def share(b: Builder, label: str) -> None:
+def install(b: Builder, parts: HandlerParts | None = None) -> str:
+    """Sets up the common handler of exceptions. Gives its label."""
+    low_bits = b.rng.choice((0, 0, 0, 4, 0x20, 0x3F, b.rng.getrandbits(6)))
+    chosen = draw_parts(b) if parts is None else parts
+    return set_up(b, lambda: _emit_common(b, chosen), low_bits=low_bits)
+
+
+def share_with_refills(b: Builder, label: str) -> None:
     """Makes the handler of exceptions the handler of refills too."""
-    b.asm.load_address(b.roles.value, label)
-    b.emit("csrwr", b.roles.value, control.TLBRENTRY)
+    b.write_address(control.TLBRENTRY, label)
 
 
-def emit_handler(b: Builder, label: str, parts: Parts) -> None:
-    """Places the common handler."""
+def _emit_common(b: Builder, parts: HandlerParts) -> None:
     ecode, era, third, _ = b.roles.handler
     interrupt, fetch, out = (b.new_label(stem) for stem in ("interrupt", "fetch", "out"))
-    b.asm.align(64)
-    b.asm.label(label)
     for number in parts.folds:
         b.fold_control(number, via=third)
     b.emit("addi.w", b.roles.count, b.roles.count, 1)
@@ -82,7 +91,7 @@ def emit_handler(b: Builder, label: str, parts: Parts) -> None:
     b.emit("ertn")
     _emit_fetch(b, fetch)
     if parts.interrupts:
-        _emit_interrupt(b, interrupt, parts.limit)
+        _emit_interrupt(b, interrupt, parts.most_interrupts)
 
 
 def _emit_service(b: Builder, ecode: int, out: str) -> None:
@@ -103,7 +112,7 @@ def _emit_fetch(b: Builder, label: str) -> None:
     b.emit("ertn")
 
 
-def _emit_interrupt(b: Builder, label: str, limit: int) -> None:
+def _emit_interrupt(b: Builder, label: str, most: int) -> None:
     """Clears every cause that can be cleared; after some interrupts, disables all."""
     first, second, third, fourth = b.roles.handler
     last = b.new_label("last")
@@ -117,7 +126,7 @@ def _emit_interrupt(b: Builder, label: str, limit: int) -> None:
     b.emit("csrwr", first, control.TICLR)
     b.emit("ori", third, 0, control.LINE_BITS)
     b.emit("csrxchg", 0, third, control.ECFG)
-    b.emit("slti", third, second, limit)
+    b.emit("slti", third, second, most)
     b.asm.branch("bne", third, 0, to=last)
     b.emit("csrwr", 0, control.ECFG)
     b.asm.label(last)
@@ -134,18 +143,23 @@ def call_service(b: Builder, prmd: int) -> None:
     b.emit("syscall", b.rng.choice((0, 1, 0x7FFF, b.rng.getrandbits(15))))
 
 
+def admit_interrupts(b: Builder) -> None:
+    """Sets CRMD.IE and nothing else."""
+    b.exchange_control(control.CRMD, control.INTERRUPTS_ON, control.INTERRUPTS_ON)
+
+
 def interrupt_now_and_then(b: Builder, share: float) -> None:
     """In a share of programs, runs the timer periodically and admits its interrupts."""
     rng = b.rng
     if rng.random() >= share:
         return
     b.interrupting = True
-    b.write_control(control.ECFG, rng.choice((0x800, 0x803, 0x1FFF)))
+    b.write_control(control.ECFG, rng.choice((control.TIMER_BIT, control.TIMER_BIT | control.SOFTWARE_BITS, 0x1FFF)))
     b.write_control(control.TCFG, control.timer_configuration(rng.randint(14, 60), True))
 
 
 def fetch_from(b: Builder, address: int) -> None:
     """Places a call of an address; where the fetch fails, the program goes on behind it."""
-    register = b.free()
+    register = b.registers.free()
     b.load(register, address)
     b.emit("jirl", b.roles.link, register, 0)

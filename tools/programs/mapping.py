@@ -78,7 +78,7 @@ def write_entry(b: Builder, entry: Entry, fill: bool = False) -> None:
 
 def write_entries(b: Builder, entries: list[Entry], fill: bool = False) -> None:
     """Places a loop that writes entries from a table."""
-    table, value, left = b.some(3)
+    table, value, left = b.registers.some(3)
     label = b.new_label("table")
     b.asm.load_address(table, label)
     b.load(left, len(entries))
@@ -111,9 +111,9 @@ def map_all(b: Builder, entries: list[Entry]) -> None:
 
 def emit_tlb_reader(b: Builder, label: str) -> None:
     """Places a routine that folds all entries; it returns to r1."""
-    index, mask, value = b.some(3)
+    index, mask, value = b.registers.some(3)
     while 1 in (index, mask, value):
-        index, mask, value = b.some(3)
+        index, mask, value = b.registers.some(3)
     b.asm.label(label)
     b.load(index, 0)
     b.load(mask, 0)
@@ -152,19 +152,15 @@ def enter_mapped(b: Builder, user_window: bool = False) -> None:
 
 # Refills
 
-def install_refill(b: Builder, size: int, by_index: bool, flags: int) -> None:
-    """Sets a handler that maps any address to the open pages, by its page number."""
-    label = b.new_label("refill")
-    b.asm.load_address(b.roles.value, label, b.rng.choice((0, 0, 0x3F)))
-    b.emit("csrwr", b.roles.value, control.TLBRENTRY)
-    b.later(lambda: _emit_refill(b, label, size, by_index, flags))
+def install_refill(b: Builder, size: int, by_index: bool, flags: tuple[int, int]) -> None:
+    """Sets a handler that maps any address to the open pages, by its page number, with these flags of both halves."""
+    low_bits = b.rng.choice((0, 0, 0x3F))
+    handlers.set_up(b, lambda: _emit_refill(b, size, by_index, flags), control.TLBRENTRY, low_bits)
 
 
-def _emit_refill(b: Builder, label: str, size: int, by_index: bool, flags: int) -> None:
+def _emit_refill(b: Builder, size: int, by_index: bool, flags: tuple[int, int]) -> None:
     rng = b.rng
     first, second, third, _ = b.roles.handler
-    b.asm.align(64)
-    b.asm.label(label)
     for number in rng.sample(REFILL_READS, rng.randint(1, 3)):
         b.fold_control(number, via=third)
     b.emit("addi.w", b.roles.count, b.roles.count, 1)
@@ -182,24 +178,23 @@ def _emit_refill(b: Builder, label: str, size: int, by_index: bool, flags: int) 
     b.emit("ertn")
 
 
-def _emit_halves(b: Builder, size: int, flags: int) -> None:
+def _emit_halves(b: Builder, size: int, flags: tuple[int, int]) -> None:
     """Makes both halves' registers, from the address where pages are small."""
     first, second, third, fourth = b.roles.handler
     pages = b.layout.pages
-    low = [flags >> 7 * half & 0x7F for half in range(2)]
     if size == control.LARGE:
         for half, number in enumerate((control.TLBELO0, control.TLBELO1)):
-            b.load(first, frame_of(b.rng, pages[0], size) << 8 | low[half])
+            b.load(first, frame_of(b.rng, pages[0], size) << 8 | flags[half])
             b.emit("csrwr", first, number)
         return
     b.emit("csrrd", second, control.BADV)
     b.emit("srli.w", second, second, 13)
     b.emit("andi", second, second, 1)
     b.emit("slli.w", second, second, 9)
-    b.load(third, pages[0] >> 4 | low[0])
+    b.load(third, pages[0] >> 4 | flags[0])
     b.emit("add.w", third, third, second)
     b.emit("csrwr", third, control.TLBELO0)
-    b.load(fourth, pages[1] >> 4 | low[1])
+    b.load(fourth, pages[1] >> 4 | flags[1])
     b.emit("add.w", fourth, fourth, second)
     b.emit("csrwr", fourth, control.TLBELO1)
 
@@ -229,5 +224,5 @@ def virtual(rng: Random, base: int, pages: tuple[int, ...], size: int, half: int
 def install_both(b: Builder) -> str:
     """Sets the common handler for exceptions and for refills."""
     label = handlers.install(b)
-    handlers.share(b, label)
+    handlers.share_with_refills(b, label)
     return label

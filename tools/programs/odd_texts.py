@@ -6,8 +6,10 @@ from collections.abc import Callable
 from random import Random
 
 import setups
+from boards import BANK_SIZE
+from program import RESET
 
-BANK, BANK_END = 0x1C000000, 0x1C008000
+BANK, BANK_END = RESET, RESET + BANK_SIZE
 LIMIT = 65_536
 WORK = (0x02BFFC04, 0x00101085, 0x14380006, 0x288000C7, 0x58000000)
 ODD_BYTES = b"\x00\x09\x0a\x0b\x0c\x0d ,wgr0189AFaf:/@G`-+x.;#\x7f\x80\x85\xe2\xff"

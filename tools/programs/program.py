@@ -1,20 +1,22 @@
 """A test program under construction, without its text.
 
-`Layout` says where a program finds memory. `Builder` hands out registers, has
-the assembler, folds what the program learns into a register by a hash, and
-keeps the runs that the text is to make. `finish` gives the `Program`, which
-`setups` and `boards` write as a text.
+`Layout` says where a program finds memory. `Builder` writes its instructions,
+with `Registers` for the registers and `Hash` for what the program learns.
+`finish` gives the `Program` with the runs that a text is to make of it, which
+`setups` and `boards` write.
 """
 
 from __future__ import annotations
 
 from collections.abc import Callable
-from dataclasses import dataclass, field, replace
+from dataclasses import dataclass
 from random import Random
+from typing import TypeVar
 
-import values
-from assembler import SHIFTS, SIGNED_IMMEDIATES, THREE_REGISTERS, UNSIGNED_IMMEDIATES
 from assembler import Assembler, EncodingError
+from registers import Registers, Roles
+
+T = TypeVar("T")
 
 RESET = 0x1C000000
 PAGE = 0x1000
@@ -23,6 +25,15 @@ LARGE_PAGE = 0x200000
 
 class OutOfRoom(EncodingError):
     """The program does not fit the memory of its layout."""
+
+
+def until_it_fits(draw: Callable[[], T]) -> T:
+    """What a draw gives; one whose code or offsets do not fit is made again."""
+    while True:
+        try:
+            return draw()
+        except EncodingError:
+            continue
 
 
 @dataclass(frozen=True)
@@ -35,6 +46,15 @@ class Layout:
     others: tuple[int, ...] = ()
     code_is_open: bool = True
     code: int = RESET
+
+    @property
+    def code_segment(self) -> int:
+        """The segment of the code, which is the upper three bits of its addresses."""
+        return self.code >> 29
+
+    def other_segment(self, rng: Random) -> int:
+        """A random segment that is not the code's."""
+        return rng.choice([segment for segment in range(8) if segment != self.code_segment])
 
 
 SETUP_LAYOUT = Layout(
@@ -58,60 +78,52 @@ class Program:
     layout: Layout
     words: dict[int, int]
     runs: list[Run]
-    memory: list[int]
+    read_at_end: list[int]
 
 
 @dataclass(frozen=True)
-class Roles:
-    """General registers that have a fixed use in a program."""
+class Hash:
+    """How a register is folded into the hash, which is first multiplied by an odd number.
 
-    hash: int
-    mix: int
-    factor: int
-    value: int
-    count: int
-    service: int
-    link: int
-    pointer: int
-    handler: tuple[int, int, int, int]
-    free: tuple[int, ...]
+    That is the factor's register or, without a product, 1 + 2 ** shift.
+    """
 
+    multiplies: bool
+    shift: int
 
-def draw_roles(rng: Random) -> Roles:
-    """Roles for registers in random order; bl writes r1, so r1 has none but link."""
-    numbers = list(range(2, 32))
-    rng.shuffle(numbers)
-    link = 1 if rng.random() < 0.3 else numbers.pop()
-    fixed = [numbers.pop() for _ in range(11)]
-    free = sorted(numbers if link == 1 else [*numbers, 1])
-    return Roles(
-        hash=fixed[0], mix=fixed[1], factor=fixed[2], value=fixed[3], count=fixed[4],
-        service=fixed[5], link=link, pointer=fixed[6],
-        handler=(fixed[7], fixed[8], fixed[9], fixed[10]), free=tuple(free),
-    )
+    def place(self, asm: Assembler, roles: Roles, register: int) -> None:
+        """Places the instructions."""
+        if self.multiplies:
+            asm.emit("mul.w", roles.hash, roles.hash, roles.factor)
+        else:
+            asm.emit("slli.w", roles.mix, roles.hash, self.shift)
+            asm.emit("add.w", roles.hash, roles.hash, roles.mix)
+        asm.emit("xor", roles.hash, roles.hash, register)
 
 
-@dataclass
+def draw_hash(rng: Random) -> Hash:
+    """A hash with or without a product."""
+    return Hash(rng.random() < 0.7, rng.choice((1, 3, 5, 7, 11, 13)))
+
+
 class Builder:
-    """Everything that a scenario needs to write a program."""
+    """Writes the instructions of a test program, and what is to stand behind its end."""
 
-    rng: Random
-    layout: Layout
-    asm: Assembler = field(init=False)
-    roles: Roles = field(init=False)
-    memory: list[int] = field(default_factory=list)
-    interrupting: bool = False
-    _blocks: list[Callable[[], None]] = field(default_factory=list)
-    _multiplies: bool = field(init=False)
-    _shift: int = field(init=False)
+    def __init__(self, rng: Random, layout: Layout) -> None:
+        self.rng = rng
+        self.layout = layout
+        self.asm = Assembler(layout.code)
+        self.registers = Registers(rng)
+        self.read_at_end: list[int] = []
+        self.interrupting = False
+        self._hash = draw_hash(rng)
+        self._blocks: list[Callable[[], None]] = []
+        if self._hash.multiplies:
+            self.load(self.roles.factor, rng.getrandbits(32) | 1)
 
-    def __post_init__(self) -> None:
-        self.asm = Assembler(self.layout.code)
-        self.roles = draw_roles(self.rng)
-        self._multiplies = self.rng.random() < 0.7
-        self._shift = self.rng.choice((1, 3, 5, 7, 11, 13))
-        if self._multiplies:
-            self.load(self.roles.factor, self.rng.getrandbits(32) | 1)
+    @property
+    def roles(self) -> Roles:
+        return self.registers.roles
 
     # Instructions
 
@@ -135,9 +147,14 @@ class Builder:
         self.load(self.roles.value, value)
         self.emit("csrwr", self.roles.value, number)
 
+    def write_address(self, number: int, label: str, plus: int = 0) -> None:
+        """Places instructions that write the address of a label into a control register."""
+        self.asm.load_address(self.roles.value, label, plus)
+        self.emit("csrwr", self.roles.value, number)
+
     def exchange_control(self, number: int, value: int, mask: int) -> None:
         """Places instructions that write the masked bits of a control register."""
-        mask_register = self.free()
+        mask_register = self.registers.free()
         self.load(mask_register, mask)
         if value == 0:
             self.emit("csrxchg", 0, mask_register, number)
@@ -147,73 +164,17 @@ class Builder:
             self.load(self.roles.value, value)
             self.emit("csrxchg", self.roles.value, mask_register, number)
 
-    def free(self) -> int:
-        """A random register that the program may change."""
-        return self.rng.choice(self.roles.free)
-
-    def some(self, count: int) -> list[int]:
-        """So many different registers that the program may change."""
-        return self.rng.sample(self.roles.free, count)
-
-    def take(self, registers: list[int]) -> None:
-        """Keeps registers from being changed by random instructions from here on."""
-        left = tuple(number for number in self.roles.free if number not in registers)
-        self.roles = replace(self.roles, free=left)
-
-    def source(self) -> int:
-        """A random register to read; sometimes r0, seldom one that has a role."""
-        draw = self.rng.random()
-        if draw < 0.06:
-            return 0
-        return self.rng.randrange(32) if draw < 0.1 else self.free()
-
-    def target(self) -> int:
-        """A random register to write; sometimes r0."""
-        return 0 if self.rng.random() < 0.05 else self.free()
-
     # Hash
 
     def fold(self, register: int) -> None:
-        """Folds a register into the hash, which is first multiplied by an odd number."""
-        roles = self.roles
-        if self._multiplies:
-            self.emit("mul.w", roles.hash, roles.hash, roles.factor)
-        else:
-            self.emit("slli.w", roles.mix, roles.hash, self._shift)
-            self.emit("add.w", roles.hash, roles.hash, roles.mix)
-        self.emit("xor", roles.hash, roles.hash, register)
+        """Folds a register into the hash."""
+        self._hash.place(self.asm, self.roles, register)
 
     def fold_control(self, number: int, via: int | None = None) -> None:
         """Folds a control register into the hash."""
         register = self.roles.value if via is None else via
         self.emit("csrrd", register, number)
         self.fold(register)
-
-    # Filler
-
-    def arithmetic(self) -> None:
-        """Places one random instruction of arithmetic."""
-        rng = self.rng
-        rd, rj, rk = self.target(), self.source(), self.source()
-        match rng.randrange(6):
-            case 0 | 1:
-                self.emit(rng.choice(tuple(THREE_REGISTERS)), rd, rj, rk)
-            case 2:
-                self.emit(rng.choice(tuple(SHIFTS)), rd, rj, values.amount_5(rng))
-            case 3:
-                name = rng.choice(tuple(SIGNED_IMMEDIATES))
-                self.emit(name, rd, rj, values.signed_12(rng))
-            case 4:
-                name = rng.choice(tuple(UNSIGNED_IMMEDIATES))
-                self.emit(name, rd, rj, values.unsigned_12(rng))
-            case _:
-                name = rng.choice(("lu12i.w", "pcaddu12i"))
-                self.emit(name, rd, values.signed_20(rng))
-
-    def filler(self, most: int) -> None:
-        """Places a few random instructions of arithmetic."""
-        for _ in range(self.rng.randint(0, most)):
-            self.arithmetic()
 
     # Memory and labels
 
@@ -242,7 +203,7 @@ class Builder:
         self.emit("b", 0)
 
     def finish(self, steps: int, stops: bool = True) -> Program:
-        """The program, whose runs make about so many steps at least."""
+        """The program, whose runs make so many steps at least."""
         if stops:
             self.stop()
         while self._blocks:
@@ -253,7 +214,7 @@ class Builder:
             raise OutOfRoom(f"code ends at {self.asm.position:08X}")
         words = self.asm.resolve()
         runs = draw_runs(self.rng, steps)
-        return Program(self.layout, words, runs, self.memory)
+        return Program(self.layout, words, runs, self.read_at_end)
 
 
 SHORT_RUNS = (0, 1, 1, 2, 3, 3, 5, 8, 13, 17, 17, 29, 47, 64, 100, 200, 200)

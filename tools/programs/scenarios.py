@@ -15,8 +15,7 @@ import scenarios_random
 import scenarios_translation
 import scenarios_windows
 import setups
-from assembler import EncodingError
-from program import SETUP_LAYOUT, Builder, Layout, Program
+from program import SETUP_LAYOUT, Builder, Program, until_it_fits
 
 Scenario = Callable[[Builder], Program]
 
@@ -46,30 +45,20 @@ COMMON: dict[str, Scenario] = {
 }
 
 
-def build(rng: Random, scenario: Scenario, layout: Layout) -> Program:
-    """The program of a scenario; one that does not fit its memory is drawn again."""
-    while True:
-        try:
-            return scenario(Builder(rng, layout))
-        except EncodingError:
-            continue
-
-
 def setup_of(scenario: Scenario) -> Callable[[Random], bytes]:
     """Writes a scenario's program as a set-up."""
-    return lambda rng: setups.setup_text(rng, build(rng, scenario, SETUP_LAYOUT))
+    def text(rng: Random) -> bytes:
+        program = until_it_fits(lambda: scenario(Builder(rng, SETUP_LAYOUT)))
+        return setups.setup_text(rng, program)
+    return text
 
 
 def board_of(scenario: Scenario) -> Callable[[Random], bytes]:
     """Writes a scenario's program as a board text, on a board that is drawn for it."""
-    def text(rng: Random) -> bytes:
-        while True:
-            board, layout = boards.draw_board(rng)
-            try:
-                return boards.board_text(rng, scenario(Builder(rng, layout)), board)
-            except EncodingError:
-                continue
-    return text
+    def draw(rng: Random) -> bytes:
+        board, layout = boards.draw_board(rng)
+        return boards.board_text(rng, scenario(Builder(rng, layout)), board)
+    return lambda rng: until_it_fits(lambda: draw(rng))
 
 
 def odd_board_texts(rng: Random) -> bytes:
@@ -82,7 +71,7 @@ BOARDS_ONLY: dict[str, Callable[[Random], bytes]] = {
     "physical_edge": scenarios_boards.physical_edge,
     "bus_only": scenarios_boards.bus_only,
     "top_of_memory": scenarios_boards.top_of_memory,
-    "lines": scenarios_boards.lines,
+    "lines": scenarios_boards.hardware_lines,
     "refused_steps": scenarios_boards.refused_steps,
     "resets": scenarios_boards.resets,
     "odd_board_texts": odd_board_texts,

@@ -6,13 +6,15 @@ from random import Random
 
 import boards
 import control
+import filler
+import handlers
 import scenarios_random
-from assembler import LOADS, STORES, EncodingError, encode
+from assembler import LINKED, LOADS, STORES, encode
 from boards import Board, Levels, line
-from program import PAGE, RESET, Builder, Layout, Program
+from program import PAGE, RESET, Builder, Layout, until_it_fits
 from scenarios_integer import WIDTHS
 
-NAMES = (*LOADS, *STORES, "ll.w", "sc.w")
+NAMES = (*LOADS, *STORES, *LINKED)
 
 
 # Edges of parts
@@ -54,12 +56,10 @@ def _edge_board(rng: Random) -> tuple[Board, Layout]:
     return board, layout
 
 
-def _skipping_handler(b: Builder, label: str) -> None:
+def _skipping_handler(b: Builder) -> None:
     """A handler that goes on behind the step, or behind the call of a far address."""
     first, second, _, _ = b.roles.handler
     near = b.new_label("near")
-    b.asm.align(64)
-    b.asm.label(label)
     b.fold_control(control.ERA, via=first)
     b.fold_control(control.BADV, via=second)
     b.emit("addi.w", b.roles.count, b.roles.count, 1)
@@ -75,12 +75,9 @@ def _skipping_handler(b: Builder, label: str) -> None:
 
 def install_skipping(b: Builder, lines: int) -> None:
     """Sets that handler, and admits interrupts of some hardware lines."""
-    label = b.new_label("skip")
-    b.asm.load_address(b.roles.value, label)
-    b.emit("csrwr", b.roles.value, control.EENTRY)
+    handlers.set_up(b, lambda: _skipping_handler(b))
     b.write_control(control.ECFG, lines << 2)
     b.write_control(control.CRMD, control.DIRECT | control.INTERRUPTS_ON)
-    b.later(lambda: _skipping_handler(b, label))
 
 
 def _edge(b: Builder, edges: list[int], width: int) -> int:
@@ -93,7 +90,7 @@ def _edge(b: Builder, edges: list[int], width: int) -> int:
 def _edge_access(b: Builder, edges: list[int]) -> None:
     rng = b.rng
     name = rng.choice(NAMES if rng.random() < 0.5 else tuple(STORES))
-    base, value = b.some(2)
+    base, value = b.registers.some(2)
     offset = rng.choice((0, 0, 4, -4, 8))
     b.load(base, _edge(b, edges, WIDTHS[name]) - offset)
     b.emit(name, value, base, offset)
@@ -101,7 +98,7 @@ def _edge_access(b: Builder, edges: list[int]) -> None:
 
 
 def _edge_fetch(b: Builder, edges: list[int]) -> None:
-    register = b.free()
+    register = b.registers.free()
     b.load(register, _edge(b, edges, 4) & ~3)
     b.emit("jirl", b.roles.link, register, 0)
 
@@ -123,13 +120,11 @@ def physical_edge(rng: Random) -> bytes:
     program = b.finish(0, stops=False)
     lines = boards.program_lines(program, board)
     lines += _edge_writes(rng, edges, 4)
-    shown = 0
+    shows = boards.Shows(rng, share=0.2, left=3)
     for _ in range(rng.randint(8, 18)):
         lines.append(line("g", rng.choice((1, 20, 40, 60, 60)), 0))
         lines.append(line("t", rng.choice((1, 1, 0xFFFFFF01, 3, 0))))
-        if shown < 3 and rng.random() < 0.2:
-            lines.append("d\n")
-            shown += 1
+        lines += shows.next()
         if rng.random() < 0.2:
             lines += _edge_writes(rng, edges, 1)
     lines.append("d\n")
@@ -276,24 +271,22 @@ def _line_loop(b: Builder, enabled: int) -> None:
     """A loop that waits, reads what is due, and enables the lines anew."""
     rng = b.rng
     begin = b.here("again")
-    b.filler(3)
+    filler.place(b, 3)
     if rng.random() < 0.6:
         b.emit("idle", 0)
     b.fold_control(control.ESTAT)
     if rng.random() < 0.5:
         b.write_control(control.ECFG, enabled)
     if rng.random() < 0.4:
-        b.exchange_control(control.CRMD, 4, 4)
+        handlers.admit_interrupts(b)
     if rng.random() < 0.3:
         b.write_control(control.ESTAT, rng.choice((0, 1, 0xFFFFFFFF)))
     b.asm.branch("b", to=begin)
 
 
-def _line_handler(b: Builder, label: str) -> None:
+def _line_handler(b: Builder) -> None:
     """A handler that leaves the line's cause, or disables it, and returns."""
     first, second, _, _ = b.roles.handler
-    b.asm.align(64)
-    b.asm.label(label)
     b.fold_control(control.ESTAT, via=first)
     b.fold_control(control.ERA, via=second)
     b.emit("addi.w", b.roles.count, b.roles.count, 1)
@@ -310,20 +303,17 @@ def _begun_with_line_handler(rng: Random) -> tuple[boards.Board, Builder]:
     """A board, and a program on it that begins by setting the address of a handler of lines."""
     board, layout = boards.draw_board(rng)
     b = Builder(rng, layout)
-    label = b.new_label("line")
-    b.asm.load_address(b.roles.value, label)
-    b.emit("csrwr", b.roles.value, control.EENTRY)
-    b.later(lambda: _line_handler(b, label))
+    handlers.set_up(b, lambda: _line_handler(b))
     return board, b
 
 
-def lines(rng: Random) -> bytes:
+def hardware_lines(rng: Random) -> bytes:
     """Hardware lines whose levels change between runs and single steps."""
     board, b = _begun_with_line_handler(rng)
     enabled = rng.choice((0x3FC, 0x004, 0x200, 1 << rng.randrange(2, 10), 0x1FFF, 0))
     b.write_control(control.ECFG, enabled)
     if rng.random() < 0.7:
-        b.exchange_control(control.CRMD, 4, 4)
+        handlers.admit_interrupts(b)
     _line_loop(b, enabled)
     program = b.finish(0, stops=False)
     text = boards.program_lines(program, board) + [line("g", rng.randint(6, 20), 0)]
@@ -334,15 +324,13 @@ def lines(rng: Random) -> bytes:
 def _level_lines(rng: Random, levels: Levels, count: int) -> list[str]:
     """Runs and steps whose levels change, with the core shown up to five times."""
     text: list[str] = []
-    shown = 0
+    shows = boards.Shows(rng, share=0.12, left=4)
     for _ in range(count):
         if rng.random() < 0.7:
             text.append(line("t", levels.next()))
         else:
             text.append(line("g", rng.choice((1, 2, 7, 20, 50)), levels.next()))
-        if shown < 4 and rng.random() < 0.12:
-            text.append("d\n")
-            shown += 1
+        text += shows.next()
     return [*text, "d\n"]
 
 
@@ -357,12 +345,13 @@ def refused_steps(rng: Random) -> bytes:
         value = control.timer_configuration(rng.randint(5, 60), periodic)
         b.write_control(control.TCFG, value)
     if rng.random() < 0.4:
-        b.exchange_control(control.CRMD, 4, 4)
-    register = b.free()
+        handlers.admit_interrupts(b)
+    register = b.registers.free()
     if rng.random() < 0.6:
         _wait_before_nothing(b, register)
     else:
         b.load(register, rng.choice((0xE0000000, 0x90000000)))
+        # Not sc.w, which asks no bus without the link.
         b.emit(rng.choice(NAMES[:-1]), b.roles.value, register, 0)
         b.emit("rdcntvl.w", b.roles.value)
         b.stop()
@@ -388,12 +377,7 @@ def resets(rng: Random) -> bytes:
     """Random programs that a reset ends and begins anew."""
     board, layout = boards.draw_board(rng)
     scenario = rng.choice((scenarios_random.random_code, scenarios_random.random_mapped))
-    while True:
-        try:
-            program: Program = scenario(Builder(rng, layout))
-            break
-        except EncodingError:
-            continue
+    program = until_it_fits(lambda: scenario(Builder(rng, layout)))
     text = boards.program_lines(program, board)
     levels = boards.draw_levels(rng)
     for _ in range(rng.randint(1, 3)):
@@ -402,5 +386,5 @@ def resets(rng: Random) -> bytes:
         if rng.random() < 0.5:
             text.append("d\n")
     text += [line("g", rng.randint(1, 1500), levels.next()), "d\n"]
-    text += boards.memory_lines(rng, program.memory, 4)
+    text += boards.memory_lines(rng, program.read_at_end, 4)
     return "".join(board.lines(rng) + text).encode("ascii")

@@ -3,6 +3,7 @@
 from __future__ import annotations
 
 import control
+import filler
 import handlers
 import values
 from assembler import FIXED_BITS, FORM_OF, FORMS, MNEMONICS, encode
@@ -55,7 +56,7 @@ def privileged(b: Builder) -> int:
     """The word of a random privileged instruction."""
     rng = b.rng
     number = rng.choice(control.ALL) if rng.random() < 0.8 else control.unknown_number(rng)
-    rd, rj = b.target(), b.source()
+    rd, rj = b.registers.target(), b.registers.source()
     match rng.randrange(7):
         case 0:
             return encode("csrrd", rd, number)
@@ -67,7 +68,7 @@ def privileged(b: Builder) -> int:
             code = rng.choice([code for code in range(32) if code >> 3 != 2])
             return encode("cacop", code, rj, values.signed_12(rng))
         case 4:
-            return encode("invtlb", rng.randrange(32), rj, b.source())
+            return encode("invtlb", rng.randrange(32), rj, b.registers.source())
         case 5:
             return encode("idle", values.code_15(rng))
     return encode(rng.choice(PRIVILEGED_WHOLE))
@@ -76,14 +77,14 @@ def privileged(b: Builder) -> int:
 def misaligned_access(b: Builder) -> None:
     """A load or store, at an address that is open or absent, that is not aligned."""
     rng = b.rng
-    base = b.free()
+    base = b.registers.free()
     halves, words = ("ld.h", "ld.hu", "st.h"), ("ld.w", "st.w", "ll.w", "sc.w")
     width, names = rng.choice(((2, halves), (4, words)))
     address = rng.choice((b.page(), *b.layout.absent)) + rng.randrange(1, width)
     b.load(base, address)
     name = rng.choice(names)
     offset = rng.choice((0, 4, -4)) if name in ("ll.w", "sc.w") else rng.choice((0, width, -width))
-    b.emit(name, b.free(), base, offset)
+    b.emit(name, b.registers.free(), base, offset)
 
 
 def cause(b: Builder) -> None:
@@ -105,27 +106,24 @@ def cause(b: Builder) -> None:
             handlers.fetch_from(b, rng.choice((b.layout.code, b.page())) + rng.randrange(1, 4))
         case _:
             handlers.call_service(b, 0)
-            b.emit("invtlb", rng.randrange(7, 32), b.source(), b.source())
+            b.emit("invtlb", rng.randrange(7, 32), b.registers.source(), b.registers.source())
 
 
 def return_to_label(b: Builder, prmd: int) -> None:
     """A return in the main program to what follows, with chosen levels."""
     label = b.new_label("return")
     b.write_control(control.PRMD, prmd)
-    b.asm.load_address(b.roles.value, label)
-    b.emit("csrwr", b.roles.value, control.ERA)
+    b.write_address(control.ERA, label)
     b.emit("ertn")
     b.asm.label(label)
 
 
 # Exceptions and the return
 
-def _nesting_handler(b: Builder, label: str) -> None:
+def _nesting_handler(b: Builder) -> None:
     """A handler that takes an exception itself, once, and then returns from both."""
     first, second, third, _ = b.roles.handler
     inner = b.new_label("inner")
-    b.asm.align(64)
-    b.asm.label(label)
     for number in (control.ESTAT, control.ERA, control.PRMD, control.CRMD):
         b.fold_control(number, via=third)
     b.emit("addi.w", b.roles.count, b.roles.count, 1)
@@ -150,13 +148,10 @@ def _nesting_handler(b: Builder, label: str) -> None:
 
 def nested_exceptions(b: Builder) -> None:
     """Installs a handler that takes an exception, and takes a few exceptions."""
-    label = b.new_label("nesting")
-    b.asm.load_address(b.roles.value, label)
-    b.emit("csrwr", b.roles.value, control.EENTRY)
+    handlers.set_up(b, lambda: _nesting_handler(b))
     b.write_control(control.SAVE0, 0)
-    b.later(lambda: _nesting_handler(b, label))
     for _ in range(b.rng.randint(1, 3)):
-        b.filler(2)
+        filler.place(b, 2)
         if b.rng.random() < 0.4:
             return_to_label(b, b.rng.choice((0, 3, 4, 7)))
         b.asm.word(b.rng.choice((encode("syscall", 1), encode("break", 2), 0)))
@@ -168,7 +163,7 @@ def exceptions_and_return(b: Builder) -> Program:
     rng = b.rng
     if rng.random() < 0.05:
         cause(b)
-        b.filler(3)
+        filler.place(b, 3)
         return b.finish(20)
     handlers.install(b)
     b.asm.load_address(b.roles.link, "end")
@@ -178,7 +173,7 @@ def exceptions_and_return(b: Builder) -> Program:
             return_to_label(b, rng.choice((0, 1, 2, 3, 4, 5, 6, 7, 0xFFFFFFFB, 0xFFFFFFFC)))
         else:
             cause(b)
-        b.filler(3)
+        filler.place(b, 3)
     b.asm.label("end")
     handlers.call_service(b, 0)
     if rng.random() < 0.4:
@@ -198,7 +193,7 @@ def undefined_words(b: Builder) -> Program:
         if rng.random() < 0.15:
             handlers.call_service(b, rng.choice((0, 3)))
         b.asm.word(undefined_word(b))
-        b.filler(1)
+        filler.place(b, 1)
     b.asm.label("end")
     return b.finish(1500)
 
@@ -235,7 +230,7 @@ def control_value(b: Builder, number: int) -> int:
 def exchange(b: Builder, number: int) -> None:
     """A read, write or exchange of a control register, with registers that are the same."""
     rng = b.rng
-    rd, rj = b.some(2)
+    rd, rj = b.registers.some(2)
     b.load(rd, control_value(b, number))
     match rng.randrange(8):
         case 0:
@@ -257,7 +252,7 @@ def exchange(b: Builder, number: int) -> None:
 
 def masked_exchange(b: Builder, number: int) -> None:
     """An exchange of a control register with a mask of some bits."""
-    rd, rj = b.some(2)
+    rd, rj = b.registers.some(2)
     b.load(rd, control_value(b, number))
     b.load(rj, b.rng.getrandbits(32))
     b.emit("csrxchg", rd, rj, number)
@@ -271,7 +266,7 @@ def _mode_writes(b: Builder) -> None:
     b.write_control(control.DMW0, control.window(0, 0, True, True))
     for _ in range(rng.randint(1, 4)):
         exchange(b, control.CRMD)
-        b.filler(1)
+        filler.place(b, 1)
         handlers.call_service(b, rng.choice((0, 0, 0, 1, 2)))
         b.fold_control(control.CRMD)
     handlers.call_service(b, 0)
@@ -300,4 +295,4 @@ def csr_masks(b: Builder) -> Program:
 def _restore_entry(b: Builder) -> None:
     """Makes sure that the handler of exceptions is where the program has one."""
     label = handlers.install(b)
-    handlers.share(b, label)
+    handlers.share_with_refills(b, label)

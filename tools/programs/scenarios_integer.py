@@ -3,6 +3,7 @@
 from __future__ import annotations
 
 import control
+import filler
 import handlers
 import values
 from assembler import BRANCHES, LOADS, STORES, THREE_REGISTERS, encode
@@ -22,7 +23,7 @@ REGISTER_SHIFTS = ("sll.w", "srl.w", "sra.w")
 def _special_pair(b: Builder) -> None:
     """A division or shift of two operands that are chosen together."""
     rng = b.rng
-    rj, rk = b.some(2)
+    rj, rk = b.registers.some(2)
     if rng.random() < 0.6:
         dividend, divisor = rng.choice(values.DIVISIONS)
         b.load(rj, dividend)
@@ -33,7 +34,7 @@ def _special_pair(b: Builder) -> None:
         b.load(rk, rng.choice(values.SHIFT_AMOUNTS))
         names = REGISTER_SHIFTS
     for name in rng.sample(names, rng.randint(1, len(names))):
-        rd = rng.choice((b.free(), b.free(), rj, rk))
+        rd = rng.choice((b.registers.free(), b.registers.free(), rj, rk))
         b.emit(name, rd, rj, rk)
         b.fold(rd)
         if rd in (rj, rk):
@@ -43,7 +44,7 @@ def _special_pair(b: Builder) -> None:
 def _aliased(b: Builder) -> None:
     """An instruction of which registers are the same."""
     rng = b.rng
-    register, other = b.some(2)
+    register, other = b.registers.some(2)
     name = rng.choice(tuple(THREE_REGISTERS))
     rd, rj, rk = rng.choice((
         (register, register, register), (register, register, other),
@@ -57,7 +58,7 @@ def _aliased(b: Builder) -> None:
 def alu_corners(b: Builder) -> Program:
     """Arithmetic of corner values, with registers that are the same."""
     rng = b.rng
-    for register in b.some(rng.randint(6, 14)):
+    for register in b.registers.some(rng.randint(6, 14)):
         b.load(register, values.word(rng))
     for _ in range(rng.randint(12, 36)):
         draw = rng.random()
@@ -66,11 +67,11 @@ def alu_corners(b: Builder) -> Program:
         elif draw < 0.36:
             _aliased(b)
         elif draw < 0.42:
-            b.load(b.free(), values.word(rng))
+            b.load(b.registers.free(), values.word(rng))
         else:
-            b.arithmetic()
+            filler.arithmetic(b)
         if rng.random() < 0.2:
-            b.fold(b.free())
+            b.fold(b.registers.free())
     return b.finish(rng.choice((60, 260, 320)))
 
 
@@ -79,9 +80,9 @@ def alu_corners(b: Builder) -> Program:
 def _conditional(b: Builder) -> None:
     """A branch of two corner values over an instruction or two."""
     rng = b.rng
-    rj, rd = (b.source(), b.source())
+    rj, rd = (b.registers.source(), b.registers.source())
     if rng.random() < 0.8:
-        rj, rd = b.some(2)
+        rj, rd = b.registers.some(2)
         b.load(rj, values.word(rng))
         b.load(rd, values.word(rng))
         if rng.random() < 0.25:
@@ -97,7 +98,7 @@ def _conditional(b: Builder) -> None:
 def _counted_loop(b: Builder) -> None:
     """A branch backward that is taken a few times."""
     rng = b.rng
-    counter, end = b.some(2)
+    counter, end = b.registers.some(2)
     b.load(counter, rng.choice((0, 0xFFFFFFFD, 0x7FFFFFFD, 0x80000000)))
     b.load(end, 0)
     b.emit("addi.w", end, counter, rng.randint(1, 6))
@@ -117,7 +118,7 @@ def _ladder(b: Builder) -> None:
     jumps = [rng.choice(("b", "bl", "beq", "bge", "bgeu")) for _ in range(count + 1)]
 
     def jump(name: str, to: str) -> None:
-        register = b.source()
+        register = b.registers.source()
         operands = (register, register) if name in BRANCHES else ()
         b.asm.branch(name, *operands, to=to)
 
@@ -133,10 +134,10 @@ def _ladder(b: Builder) -> None:
 def _indirect(b: Builder) -> None:
     """A jump to an address in a register, which may be the one that links."""
     rng = b.rng
-    register, target = b.free(), b.new_label("target")
+    register, target = b.registers.free(), b.new_label("target")
     offset = rng.choice((0, 0, 4, -4, 0x1FFFC, -0x20000, 4 * rng.randrange(-0x8000, 0x8000)))
     b.asm.load_address(register, target, -offset)
-    linking = rng.choice((register, register, 0, 1, b.free()))
+    linking = rng.choice((register, register, 0, 1, b.registers.free()))
     b.emit("jirl", linking, register, offset)
     for _ in range(rng.randint(0, 3)):
         b.emit("addi.w", b.roles.count, b.roles.count, 0x100)
@@ -146,7 +147,7 @@ def _indirect(b: Builder) -> None:
 
 def _misaligned_jump(b: Builder) -> None:
     """A jump to no multiple of 4, which the handler returns from."""
-    register = b.free()
+    register = b.registers.free()
     b.asm.load_address(register, b.here("near"), b.rng.choice((1, 2, 3, 0x101, 0x7FFF)))
     b.emit("jirl", b.roles.link, register, 4 * b.rng.randrange(-4, 4))
 
@@ -205,7 +206,7 @@ def _access(b: Builder, aligned: bool) -> None:
     """A load or store at a place of its own."""
     rng = b.rng
     name = rng.choice((*LOADS, *STORES))
-    base, value = b.some(2)
+    base, value = b.registers.some(2)
     address, offset = _place(b, WIDTHS[name], aligned)
     b.load(base, address)
     if name in STORES:
@@ -222,7 +223,7 @@ def _access(b: Builder, aligned: bool) -> None:
 def _patterned(b: Builder) -> None:
     """A word, loaded in every width at each of its bytes."""
     rng = b.rng
-    base, value = b.some(2)
+    base, value = b.registers.some(2)
     address = b.page() + rng.randrange(0, PAGE, 4)
     b.load(base, address + 8)
     b.load(value, values.word(rng) if rng.random() < 0.5 else 0x80FF7F01)
@@ -236,7 +237,7 @@ def _patterned(b: Builder) -> None:
 def _self_modifying(b: Builder) -> None:
     """An instruction that the program stores before it comes to it."""
     rng = b.rng
-    word, place = b.some(2)
+    word, place = b.registers.some(2)
     target = b.new_label("patched")
     b.load(word, encode("addi.w", b.roles.count, b.roles.count, values.signed_12(rng)))
     b.asm.load_address(place, target)
@@ -251,7 +252,7 @@ def _self_modifying(b: Builder) -> None:
 def _stored_routine(b: Builder) -> None:
     """A routine of two words that is stored in a page and called there."""
     rng = b.rng
-    word, place = b.some(2)
+    word, place = b.registers.some(2)
     b.load(place, b.page() + rng.choice((0, PAGE - 8)))
     b.load(word, encode("xori", b.roles.count, b.roles.count, values.unsigned_12(rng)))
     b.emit("st.w", word, place, 0)
@@ -265,9 +266,9 @@ def absent_access(b: Builder) -> None:
     """A load or store at an absent address, at which the program stays."""
     rng = b.rng
     name = rng.choice((*LOADS, *STORES))
-    base = b.free()
+    base = b.registers.free()
     b.load(base, rng.choice(b.layout.absent) & ~(WIDTHS[name] - 1))
-    b.emit(name, b.free(), base, 0)
+    b.emit(name, b.registers.free(), base, 0)
 
 
 def memory(b: Builder) -> Program:
@@ -288,7 +289,7 @@ def memory(b: Builder) -> Program:
             _stored_routine(b)
     if rng.random() < 0.25:
         absent_access(b)
-    b.memory.extend(b.layout.pages)
+    b.read_at_end.extend(b.layout.pages)
     return b.finish(420)
 
 
@@ -297,7 +298,7 @@ def memory(b: Builder) -> Program:
 def _link_event(b: Builder, base: int) -> None:
     """Something that clears the link, or might be thought to."""
     rng = b.rng
-    register = b.free()
+    register = b.registers.free()
     match rng.randrange(9):
         case 0:
             handlers.call_service(b, 0)
@@ -314,18 +315,18 @@ def _link_event(b: Builder, base: int) -> None:
         case 6:
             b.emit("ll.w", register, base, rng.choice((0, 4, 8, -4)))
         case _:
-            b.filler(2)
+            filler.place(b, 2)
     b.fold_control(control.LLBCTL)
 
 
 def _conditional_store(b: Builder, base: int) -> None:
     """A conditional store, its answer, and the word that stands there then."""
     rng = b.rng
-    register = rng.choice((b.free(), b.free(), base, 0))
+    register = rng.choice((b.registers.free(), b.registers.free(), base, 0))
     if register not in (0, base):
         b.load(register, values.word(rng))
     offset = rng.choice((0, 0, 0, 4, 8, -4, 0x40))
-    keep = b.free()
+    keep = b.registers.free()
     if register == base:
         b.move(keep, base)
     b.emit("sc.w", register, base, offset)
@@ -341,7 +342,7 @@ def _conditional_store(b: Builder, base: int) -> None:
 def _odd_conditional_store(b: Builder) -> None:
     """A conditional store at a misaligned or absent address, with the link 0."""
     rng = b.rng
-    place, register = b.some(2)
+    place, register = b.registers.some(2)
     b.write_control(control.LLBCTL, 2)
     address = rng.choice((*b.layout.absent, b.page() + rng.randrange(1, 4)))
     b.load(place, address)
@@ -358,14 +359,14 @@ def ll_sc(b: Builder) -> Program:
     b.load(base, b.page() + 4 * rng.randrange(8, 0x3F0))
     for _ in range(rng.randint(3, 6)):
         if rng.random() < 0.75:
-            b.emit("ll.w", rng.choice((b.free(), b.free(), 0)), base, rng.choice((0, 0, 4, -8)))
+            b.emit("ll.w", rng.choice((b.registers.free(), b.registers.free(), 0)), base, rng.choice((0, 0, 4, -8)))
         for _ in range(rng.randint(0, 2)):
             _link_event(b, base)
         if rng.random() < 0.85:
             _conditional_store(b, base)
         else:
             _odd_conditional_store(b)
-    b.memory.append(b.page())
+    b.read_at_end.append(b.page())
     return b.finish(500)
 
 
@@ -376,7 +377,7 @@ def counters(b: Builder) -> Program:
     rng = b.rng
     handlers.install(b)
     for _ in range(rng.randint(5, 14)):
-        register = b.target()
+        register = b.registers.target()
         draw = rng.random()
         if draw < 0.45:
             b.emit(rng.choice(("rdcntvl.w", "rdcntvl.w", "rdcntvh.w")), register)
@@ -384,17 +385,17 @@ def counters(b: Builder) -> Program:
             b.emit("rdcntid.w", register) if register else b.asm.word(encode("rdcntvl.w", 0))
         elif draw < 0.75:
             b.write_control(control.TID, values.word(rng))
-            b.emit("rdcntid.w", b.free())
+            b.emit("rdcntid.w", b.registers.free())
         elif draw < 0.85:
             handlers.call_service(b, rng.choice((0, 3)))
         else:
             b.asm.word(rng.choice((0, encode("break", 5))))
         b.fold(register)
-        b.filler(2)
+        filler.place(b, 2)
     if rng.random() < 0.4:
         handlers.call_service(b, 0)
         b.write_control(control.ECFG, control.TIMER_BIT)
         b.write_control(control.TCFG, control.timer_configuration(rng.randint(1, 30), False))
         b.emit("idle", values.code_15(rng))
-        b.emit("rdcntvl.w", b.free())
+        b.emit("rdcntvl.w", b.registers.free())
     return b.finish(500)

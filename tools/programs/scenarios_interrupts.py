@@ -3,6 +3,7 @@
 from __future__ import annotations
 
 import control
+import filler
 import handlers
 import scenarios_exceptions
 import values
@@ -29,7 +30,7 @@ def set_interrupts(b: Builder, enabled: bool) -> None:
 
 def delay(b: Builder, times: int) -> None:
     """A loop of so many times two steps."""
-    counter = b.free()
+    counter = b.registers.free()
     b.load(counter, times)
     begin = b.here("delay")
     b.emit("addi.w", counter, counter, -1)
@@ -38,12 +39,10 @@ def delay(b: Builder, times: int) -> None:
 
 # Software interrupts
 
-def _nested_interrupts(b: Builder, label: str) -> None:
+def _nested_interrupts(b: Builder) -> None:
     """A handler that clears one software interrupt and admits others meanwhile."""
     first, second, third, fourth = b.roles.handler
     stack, bit = b.roles.pointer, control.INTERRUPTS_ON
-    b.asm.align(64)
-    b.asm.label(label)
     b.emit("addi.w", stack, stack, -8)
     b.emit("csrrd", first, control.ERA)
     b.emit("st.w", first, stack, 0)
@@ -70,11 +69,8 @@ def _nested_interrupts(b: Builder, label: str) -> None:
 
 
 def _install_nested(b: Builder) -> None:
-    label = b.new_label("nested")
     b.load(b.roles.pointer, b.page() + PAGE)
-    b.asm.load_address(b.roles.value, label)
-    b.emit("csrwr", b.roles.value, control.EENTRY)
-    b.later(lambda: _nested_interrupts(b, label))
+    handlers.set_up(b, lambda: _nested_interrupts(b))
 
 
 def _software_step(b: Builder, nested: bool) -> None:
@@ -91,14 +87,14 @@ def _software_step(b: Builder, nested: bool) -> None:
             b.write_control(control.ECFG, rng.choice(masks))
         case 4 if not nested:
             handlers.call_service(b, rng.choice((0, 4, 3, 7)))
-            b.filler(2)
+            filler.place(b, 2)
             handlers.call_service(b, rng.choice((0, 4)))
         case 5 if not nested:
             set_interrupts(b, rng.random() < 0.7)
         case _:
             bit = rng.choice((4, 4, 0))
             b.exchange_control(control.CRMD, bit, control.INTERRUPTS_ON)
-    b.filler(2)
+    filler.place(b, 2)
     b.fold_control(control.ESTAT)
 
 
@@ -116,7 +112,7 @@ def software_interrupts(b: Builder) -> Program:
     if rng.random() < 0.4:
         b.write_control(control.ECFG, 3)
         b.write_control(control.ESTAT, 3)
-        b.exchange_control(control.CRMD, 4, 4)
+        handlers.admit_interrupts(b)
     return b.finish(700)
 
 
@@ -150,9 +146,9 @@ def _timer_step(b: Builder) -> None:
         case 1:
             write_timer(b, rng.choice((0, 1, 4, 9)), rng.random() < 0.5, enabled=False)
         case 2:
-            mask = b.free()
+            mask = b.registers.free()
             b.load(mask, rng.choice((0, 0, 1, 2, 3)))
-            b.emit("csrxchg", b.free(), mask, control.TCFG)
+            b.emit("csrxchg", b.registers.free(), mask, control.TCFG)
         case 3 | 4:
             for _ in range(rng.randint(1, 3)):
                 b.emit("csrrd", b.roles.value, control.TVAL)
@@ -167,14 +163,14 @@ def _timer_step(b: Builder) -> None:
             _expiry_in(b)
         case _:
             b.fold_control(rng.choice((control.ESTAT, control.TCFG)))
-    b.filler(2)
+    filler.place(b, 2)
 
 
 def _expiry_in(b: Builder) -> None:
     """An expiry of the timer within a few steps, among them jumps to no multiple of 4."""
     rng = b.rng
-    b.write_control(control.ECFG, 0x800)
-    b.exchange_control(control.CRMD, 4, 4)
+    b.write_control(control.ECFG, control.TIMER_BIT)
+    handlers.admit_interrupts(b)
     write_timer(b, rng.randint(1, 4), False)
     for _ in range(rng.randint(2, 5)):
         draw = rng.random()
@@ -183,7 +179,7 @@ def _expiry_in(b: Builder) -> None:
         elif draw < 0.6:
             b.asm.word(rng.choice((0, encode("break", 1))))
         else:
-            b.arithmetic()
+            filler.arithmetic(b)
     delay(b, rng.randint(1, 6))
 
 
@@ -194,7 +190,7 @@ def timer(b: Builder) -> Program:
     b.write_control(control.ECFG, rng.choice((0x800, 0x800, 0x800, 0x803, ENABLE_ALL, 0x7FF)))
     write_timer(b, rng.randint(1, 40), rng.random() < 0.4)
     if rng.random() < 0.8:
-        b.exchange_control(control.CRMD, 4, 4)
+        handlers.admit_interrupts(b)
     for _ in range(rng.randint(6, 14)):
         _timer_step(b)
     if rng.random() < 0.4:
@@ -226,7 +222,7 @@ def _wake_source(b: Builder, enabled: bool) -> None:
         b.write_control(control.ESTAT, rng.choice((1, 2, 3)))
     elif draw < 0.95:
         b.write_control(control.ESTAT, rng.choice((0, 1, 2)))
-        b.write_control(control.ECFG, 0x803)
+        b.write_control(control.ECFG, control.TIMER_BIT | control.SOFTWARE_BITS)
         write_timer(b, rng.randint(1, 25), False)
     else:
         b.write_control(control.ESTAT, 3)
@@ -243,9 +239,9 @@ def wait(b: Builder) -> None:
     """A wait, and what the program sees behind it."""
     rng = b.rng
     if rng.random() < 0.5:
-        b.emit("rdcntvl.w", b.free())
+        b.emit("rdcntvl.w", b.registers.free())
     b.emit("idle", values.code_15(rng))
-    register = b.free()
+    register = b.registers.free()
     b.emit("rdcntvl.w", register)
     b.fold(register)
     b.fold_control(control.ESTAT)
@@ -264,10 +260,10 @@ def idle(b: Builder) -> Program:
             handlers.call_service(b, 0)
         enabled = rng.random() < 0.5
         if enabled:
-            b.exchange_control(control.CRMD, 4, control.INTERRUPTS_ON)
+            handlers.admit_interrupts(b)
         _wake_source(b, enabled)
         wait(b)
-        b.filler(2)
+        filler.place(b, 2)
     if rng.random() < 0.2:
         b.write_control(control.ECFG, rng.choice((0, 0x3FC, 0x1000)))
         b.write_control(control.ESTAT, rng.choice((0, 3)))

@@ -2,7 +2,7 @@
 
 The instructions are random within bounds that keep the program running: base
 registers of loads and stores point into open pages, branches go forward, and
-the registers on which handlers and windows depend are not written.
+the registers on which handlers and windows depend are seldom written.
 """
 
 from __future__ import annotations
@@ -10,20 +10,21 @@ from __future__ import annotations
 from collections.abc import Callable
 
 import control
+import filler
 import handlers
 import mapping
 import scenarios_exceptions
 import scenarios_interrupts
 import scenarios_translation
 import values
-from assembler import BRANCHES, LOADS, MNEMONICS, STORES, encode
+from assembler import BRANCHES, LINKED, LOADS, MNEMONICS, STORES, encode
 from mapping import Entry
 from program import Builder, Program
 from scenarios_integer import WIDTHS
 
 KEPT = (control.CRMD, control.EENTRY, control.TLBRENTRY, control.DMW0, control.DMW1, control.ERA)
 CHANGED = tuple(number for number in control.ALL if number not in KEPT)
-MEMORY_NAMES = (*LOADS, *STORES, "ll.w", "sc.w")
+MEMORY_NAMES = (*LOADS, *STORES, *LINKED)
 
 Action = Callable[[Builder, list[int]], None]
 
@@ -35,7 +36,7 @@ def _memory(b: Builder, pointers: list[int]) -> None:
     offset = rng.randrange(-0x40, 0x40)
     if rng.random() < 0.9 or name in ("ll.w", "sc.w"):
         offset = offset // width * width
-    register = rng.choice((b.target(), b.source()))
+    register = rng.choice((b.registers.target(), b.registers.source()))
     if register in pointers and name not in STORES:
         register = 0
     b.emit(name, register, rng.choice(pointers), offset)
@@ -47,26 +48,26 @@ def _forward(b: Builder, pointers: list[int]) -> None:
     over = b.new_label("over")
     draw = rng.random()
     if draw < 0.6:
-        b.asm.branch(rng.choice(tuple(BRANCHES)), b.source(), b.source(), to=over)
+        b.asm.branch(rng.choice(tuple(BRANCHES)), b.registers.source(), b.registers.source(), to=over)
     elif draw < 0.8:
         b.asm.branch(rng.choice(("b", "bl")), to=over)
     else:
-        register = b.free()
+        register = b.registers.free()
         b.emit("pcaddu12i", register, 0)
         words = rng.randint(2, 5)
         b.emit("jirl", rng.choice((0, register, 1)), register, 4 * words)
         for _ in range(words - 2):
-            b.arithmetic()
+            filler.arithmetic(b)
         return
     for _ in range(rng.randint(0, 3)):
-        b.arithmetic()
+        filler.arithmetic(b)
     b.asm.label(over)
 
 
 def _control(b: Builder, pointers: list[int]) -> None:
     rng = b.rng
     number = rng.choice(CHANGED) if rng.random() < 0.9 else control.unknown_number(rng)
-    register = b.target() if rng.random() < 0.5 else b.free()
+    register = b.registers.target() if rng.random() < 0.5 else b.registers.free()
     if rng.random() < 0.3 and register:
         b.load(register, scenarios_exceptions.control_value(b, number))
     match rng.randrange(3):
@@ -75,7 +76,7 @@ def _control(b: Builder, pointers: list[int]) -> None:
         case 1:
             b.emit("csrwr", register, number)
         case _:
-            b.emit("csrxchg", register, max(b.source(), 2), number)
+            b.emit("csrxchg", register, max(b.registers.source(), 2), number)
 
 
 def _mode(b: Builder, pointers: list[int]) -> None:
@@ -96,7 +97,7 @@ def _tlb(b: Builder, pointers: list[int]) -> None:
     if rng.random() < 0.6:
         b.emit(rng.choice(("tlbsrch", "tlbrd", "tlbwr", "tlbfill")))
     else:
-        b.emit("invtlb", rng.choice((*range(7), *range(7), 7, 31)), b.source(), b.source())
+        b.emit("invtlb", rng.choice((*range(7), *range(7), 7, 31)), b.registers.source(), b.registers.source())
 
 
 def _quiet(b: Builder, pointers: list[int]) -> None:
@@ -104,15 +105,15 @@ def _quiet(b: Builder, pointers: list[int]) -> None:
     match rng.randrange(5):
         case 0:
             code = rng.choice((*range(16), *range(24, 32)))
-            b.emit("cacop", code, b.source(), values.signed_12(rng))
+            b.emit("cacop", code, b.registers.source(), values.signed_12(rng))
         case 1:
             b.emit("cacop", rng.randrange(16, 24), rng.choice(pointers), rng.randrange(-16, 16))
         case 2:
-            b.emit("preld", rng.randrange(32), b.source(), values.signed_12(rng))
+            b.emit("preld", rng.randrange(32), b.registers.source(), values.signed_12(rng))
         case 3:
             b.emit(rng.choice(("dbar", "ibar")), values.code_15(rng))
         case _:
-            b.emit(rng.choice(("rdcntvl.w", "rdcntvh.w")), b.target())
+            b.emit(rng.choice(("rdcntvl.w", "rdcntvh.w")), b.registers.target())
 
 
 def _exception(b: Builder, pointers: list[int]) -> None:
@@ -123,7 +124,7 @@ def _exception(b: Builder, pointers: list[int]) -> None:
         case 1:
             b.asm.word(scenarios_exceptions.undefined_word(b))
         case 2:
-            b.emit("rdcntid.w", b.free())
+            b.emit("rdcntid.w", b.registers.free())
         case _:
             b.load(b.roles.service, rng.choice((0, 0, 3)))
             b.emit("syscall", values.code_15(rng))
@@ -137,7 +138,7 @@ def _bring_about(b: Builder, enabled: int, latest: int, periodic: float) -> None
         b.write_control(control.ECFG, enabled)
         b.write_control(control.ESTAT, rng.choice((1, 2, 3)))
     else:
-        b.write_control(control.ECFG, 0x800)
+        b.write_control(control.ECFG, control.TIMER_BIT)
         left = rng.randint(1, latest)
         scenarios_interrupts.write_timer(b, left, periodic > 0 and rng.random() < periodic)
 
@@ -151,15 +152,15 @@ def _wait(b: Builder, pointers: list[int]) -> None:
 def _interrupt(b: Builder, pointers: list[int]) -> None:
     """An interrupt at once, or the timer's a little later."""
     rng = b.rng
-    _bring_about(b, enabled=0x803, latest=30, periodic=0.2)
+    _bring_about(b, enabled=control.TIMER_BIT | control.SOFTWARE_BITS, latest=30, periodic=0.2)
     if rng.random() < 0.5:
-        b.exchange_control(control.CRMD, 4, 4)
+        handlers.admit_interrupts(b)
     else:
         handlers.call_service(b, rng.choice((4, 7)))
 
 
 def _arithmetic(b: Builder, pointers: list[int]) -> None:
-    b.arithmetic()
+    filler.arithmetic(b)
 
 
 DIRECT_ACTIONS: tuple[tuple[Action, int], ...] = (
@@ -170,10 +171,10 @@ DIRECT_ACTIONS: tuple[tuple[Action, int], ...] = (
 
 def _pointers(b: Builder) -> list[int]:
     """Registers that are loaded with places in open pages, and taken from the free ones."""
-    registers = b.some(3)
+    registers = b.registers.some(3)
     for register in registers:
         b.load(register, b.page() + b.rng.randrange(0x100, 0xF00, 4))
-    b.take(registers)
+    b.registers.take(registers)
     return registers
 
 
@@ -183,23 +184,24 @@ def _body(b: Builder, pointers: list[int], count: int) -> None:
     for action in b.rng.choices(actions, weights, k=count):
         action(b, pointers)
         if b.rng.random() < 0.08:
-            b.fold(b.free())
+            b.fold(b.registers.free())
 
 
 def random_code(b: Builder) -> Program:
     """Random instructions of every kind, under windows that keep the addresses."""
     rng = b.rng
     mapping.install_both(b)
-    window = control.window(b.layout.code >> 29, b.layout.code >> 29, True, True)
+    own = b.layout.code_segment
+    window = control.window(own, own, True, True)
     b.write_control(rng.choice((control.DMW0, control.DMW1)), window)
     pointers = _pointers(b)
     b.asm.load_address(b.roles.link, "end")
-    for register in b.some(rng.randint(2, 6)):
+    for register in b.registers.some(rng.randint(2, 6)):
         b.load(register, values.word(rng))
     count = rng.randint(20, 60) if rng.random() < 0.94 else rng.randint(200, 350)
     _body(b, pointers, count)
     b.asm.label("end")
-    b.memory.extend(b.layout.pages)
+    b.read_at_end.extend(b.layout.pages)
     return b.finish(40 * count)
 
 
@@ -209,11 +211,11 @@ def random_mapped(b: Builder) -> Program:
     label = handlers.install(b)
     handlers.interrupt_now_and_then(b, 0.4)
     if rng.random() < 0.5:
-        handlers.share(b, label)
+        handlers.share_with_refills(b, label)
     else:
         flags = mapping.half_flags(True, rng.random() < 0.8, 3, rng.random() < 0.5)
         size = rng.choice((control.SMALL, control.LARGE))
-        mapping.install_refill(b, size, rng.random() < 0.5, flags << 7 | flags)
+        mapping.install_refill(b, size, rng.random() < 0.5, (flags, flags))
     scenarios_translation.place_routines(b)
     entries = scenarios_translation.random_entries(b, rng.randint(2, 5))
     mapping.map_all(b, entries)
@@ -223,7 +225,7 @@ def random_mapped(b: Builder) -> Program:
         if draw < 0.5:
             scenarios_translation.faulting_step(b, entries)
         elif draw < 0.6:
-            space = b.free()
+            space = b.registers.free()
             b.load(space, rng.choice((0, 1, 5, 0x3FF)))
             b.load(b.roles.value, rng.choice(entries).address)
             b.emit("invtlb", rng.randrange(8), space, b.roles.value)
@@ -233,8 +235,8 @@ def random_mapped(b: Builder) -> Program:
         elif draw < 0.8:
             handlers.call_service(b, rng.choice((0, 3)))
         else:
-            b.filler(3)
-    b.memory.extend(b.layout.pages)
+            filler.place(b, 3)
+    b.read_at_end.extend(b.layout.pages)
     return b.finish(2200)
 
 
@@ -244,7 +246,7 @@ def every_instruction(b: Builder) -> Program:
     mapping.install_both(b)
     pointers = _pointers(b)
     b.asm.load_address(b.roles.link, "end")
-    for register in b.some(4):
+    for register in b.registers.some(4):
         b.load(register, values.word(rng))
     if rng.random() < 0.3:
         handlers.call_service(b, 3)
@@ -259,16 +261,16 @@ def every_instruction(b: Builder) -> Program:
 def _one_of(b: Builder, name: str, pointers: list[int]) -> None:
     """An instruction of a given mnemonic."""
     rng = b.rng
-    rd, rj, rk = b.free(), b.source(), b.source()
+    rd, rj, rk = b.registers.free(), b.registers.source(), b.registers.source()
     pointer = rng.choice(pointers)
     if name in ("ertn", "idle"):
         b.asm.word(encode("csrrd", rd, rng.choice((control.ERA, control.CRMD))))
     elif name in BRANCHES:
         b.emit(name, rj, rk, rng.choice((4, 4, 8)))
-        b.arithmetic()
+        filler.arithmetic(b)
     elif name in ("b", "bl"):
         b.emit(name, 8)
-        b.arithmetic()
+        filler.arithmetic(b)
     elif name == "jirl":
         b.emit("pcaddu12i", rd, 0)
         b.emit("jirl", rd, rd, 8)

@@ -2,6 +2,8 @@
 
 from __future__ import annotations
 
+from random import Random
+
 import control
 import handlers
 import mapping
@@ -21,7 +23,7 @@ ROUTINE_OFFSET = 0x800
 def access(b: Builder, address: int, name: str | None = None) -> None:
     """A load or store, mostly aligned, whose result is folded."""
     rng = b.rng
-    base, value = b.some(2)
+    base, value = b.registers.some(2)
     chosen = name or rng.choice(ACCESSES)
     width = WIDTHS[chosen]
     place = address & ~(width - 1) if rng.random() < 0.93 else address | rng.randrange(width)
@@ -33,7 +35,7 @@ def access(b: Builder, address: int, name: str | None = None) -> None:
 
 def cache_hit(b: Builder, address: int) -> None:
     """A cacop of the Hit kind, aligned or not."""
-    base = b.free()
+    base = b.registers.free()
     b.load(base, address + b.rng.randrange(4))
     b.emit("cacop", b.rng.randrange(16, 24), base, 0)
 
@@ -62,7 +64,7 @@ def call_routine(b: Builder, address: int) -> None:
 
 def read_open_pages(b: Builder, count: int) -> None:
     """Folds words at the beginning and end of the open pages, by direct addresses."""
-    base, value = b.some(2)
+    base, value = b.registers.some(2)
     for page in b.rng.sample(b.layout.pages, min(count, len(b.layout.pages))):
         b.load(base, page)
         for offset in b.rng.sample((0, 4, 8, 0x7FC), 2):
@@ -84,7 +86,7 @@ def _stride(b: Builder, size: int) -> int:
 
 def _walk(b: Builder, base: int, stride: int, count: int, spaces: int) -> None:
     """A loop that stores and loads at addresses a stride apart, in some address spaces."""
-    address, step, left, value = b.some(4)
+    address, step, left, value = b.registers.some(4)
     b.load(address, base)
     b.load(step, stride)
     b.load(left, count)
@@ -109,6 +111,12 @@ def _return_after_refill(b: Builder, user_window: bool) -> None:
     b.fold_control(control.CRMD)
 
 
+def _refill_flags(rng: Random, everywhere: bool) -> int:
+    """The low bits of a half that mostly admits stores."""
+    valid, dirty = rng.random() < 0.92, rng.random() < 0.9
+    return mapping.half_flags(valid, dirty, rng.choice((0, 3, 3)), everywhere)
+
+
 def tlb_refill(b: Builder) -> Program:
     """Refills of more pages than the TLB holds, in several address spaces."""
     rng = b.rng
@@ -116,11 +124,7 @@ def tlb_refill(b: Builder) -> Program:
     size = rng.choice((control.SMALL, control.SMALL, control.LARGE))
     by_index = rng.random() < 0.4
     everywhere = rng.random() < 0.4
-    flags = 0
-    for half in range(2):
-        valid, dirty = rng.random() < 0.92, rng.random() < 0.9
-        low = mapping.half_flags(valid, dirty, rng.choice((0, 3, 3)), everywhere)
-        flags |= low << 7 * half
+    flags = (_refill_flags(rng, everywhere), _refill_flags(rng, everywhere))
     mapping.install_refill(b, size, by_index, flags)
     reader = mapping.tlb_reader(b)
     user_window = rng.random() < 0.5
@@ -138,7 +142,7 @@ def tlb_refill(b: Builder) -> Program:
         b.write_control(control.CRMD, control.DIRECT)
     read_open_pages(b, 2)
     b.asm.branch("bl", to=reader)
-    b.memory.extend(b.layout.pages)
+    b.read_at_end.extend(b.layout.pages)
     return b.finish(3600)
 
 
@@ -227,7 +231,7 @@ def tlb_faults(b: Builder) -> Program:
     if rng.random() < 0.4:
         reader = mapping.tlb_reader(b)
         b.asm.branch("bl", to=reader)
-    b.memory.extend(b.layout.pages)
+    b.read_at_end.extend(b.layout.pages)
     return b.finish(1800)
 
 
@@ -270,7 +274,7 @@ def tlb_operations(b: Builder) -> Program:
 def _fill_at_random(b: Builder, spaces: int) -> None:
     """A loop that fills the TLB from pseudo-random numbers."""
     rng = b.rng
-    state, value, left, work = b.some(4)
+    state, value, left, work = b.registers.some(4)
     b.load(state, rng.getrandbits(32) | 1)
     b.load(left, 16)
     begin = b.here("fill")
@@ -313,9 +317,9 @@ def invtlb_ops(b: Builder) -> Program:
     reader = mapping.tlb_reader(b)
     b.asm.branch("bl", to=reader)
     for _ in range(rng.randint(2, 5)):
-        space, address = b.some(2)
+        space, address = b.registers.some(2)
         while 1 in (space, address):
-            space, address = b.some(2)
+            space, address = b.registers.some(2)
         b.load(space, rng.randrange(spaces) | rng.choice((0, 0, 0x400, 0xFFFFFC00)))
         b.load(address, rng.choice(choices) + rng.choice((0, 0, 0x1FFF, 0x1000, LARGE_PAGE)))
         ops = range(7, 32) if rng.random() < 0.1 else (0, 1, 2, 3, 4, 4, 5, 5, 5, 6, 6, 6)
@@ -357,8 +361,8 @@ def _code_over_border(b: Builder, first: int, second: int, ends: bool) -> None:
         b.fold(1)
         if ends:
             b.emit("addi.w", b.roles.value, 0, 0)
-            b.emit("ld.w", b.free(), b.roles.value, b.rng.choice((-4, -8, 0)))
-            b.emit("ld.hu", b.free(), b.roles.value, -2)
+            b.emit("ld.w", b.registers.free(), b.roles.value, b.rng.choice((-4, -8, 0)))
+            b.emit("ld.hu", b.registers.free(), b.roles.value, -2)
             b.stop()
         else:
             b.emit("jirl", 0, b.roles.link, 0)
@@ -417,7 +421,7 @@ def _barrier(b: Builder) -> None:
     rng = b.rng
     match rng.randrange(3):
         case 0:
-            b.emit("preld", rng.randrange(32), b.source(), values.signed_12(rng))
+            b.emit("preld", rng.randrange(32), b.registers.source(), values.signed_12(rng))
         case 1:
             b.emit("dbar", values.code_15(rng))
         case _:
@@ -427,7 +431,7 @@ def _barrier(b: Builder) -> None:
 def _cache_step(b: Builder, code: int, addresses: list[int]) -> None:
     """A cacop at one of some addresses, and sometimes a barrier or a change of level."""
     rng = b.rng
-    base = b.free()
+    base = b.registers.free()
     offset = values.signed_12(rng)
     b.load(base, rng.choice(addresses) + rng.choice((0, 1, 2, 3, 0xFFF)) - offset)
     b.emit("cacop", code, base, offset)

@@ -3,6 +3,7 @@
 from __future__ import annotations
 
 import control
+import filler
 import handlers
 import mapping
 import scenarios_exceptions
@@ -38,11 +39,11 @@ def windows(b: Builder) -> Program:
     handlers.interrupt_now_and_then(b, 0.35)
     scenarios_translation.place_routines(b)
     own, other = rng.sample((control.DMW0, control.DMW1), 2)
-    b.write_control(own, control.window(b.layout.code >> 29, b.layout.code >> 29, True, True))
+    b.write_control(own, control.window(b.layout.code_segment, b.layout.code_segment, True, True))
     segments: list[int] = []
     b.write_control(control.CRMD, control.MAPPED)
     for _ in range(rng.randint(2, 4)):
-        segment = rng.choice([n for n in range(8) if n != b.layout.code >> 29])
+        segment = b.layout.other_segment(rng)
         segments.append(segment)
         value = control.window(segment, physical, rng.random() < 0.8, rng.random() < 0.6)
         b.write_control(other, value | rng.choice((0, 0x11FFFFF6 & ~0x9)))
@@ -58,7 +59,7 @@ def windows(b: Builder) -> Program:
     elif rng.random() < 0.5:
         _other_segment(b, other)
         _other_segment(b, other)
-    b.memory.extend(b.layout.pages)
+    b.read_at_end.extend(b.layout.pages)
     return b.finish(1500)
 
 
@@ -78,7 +79,7 @@ def _other_segment(b: Builder, number: int) -> None:
     rng = b.rng
     places = [*b.layout.others, b.page() | rng.randrange(1, 8) << 29]
     place = rng.choice(places)
-    segment = rng.choice([n for n in range(8) if n != b.layout.code >> 29])
+    segment = b.layout.other_segment(rng)
     b.write_control(number, control.window(segment, place >> 29, True, True))
     name = rng.choice(("ld.w", "ld.bu", "st.w", "st.b"))
     scenarios_translation.access(b, segment << 29 | place & 0x1FFFFFFC, name)
@@ -96,18 +97,18 @@ def _change_mode(b: Builder) -> None:
 def _both_windows(b: Builder, own: int, other: int) -> None:
     """Two windows of one segment, which lead to different places."""
     rng = b.rng
-    segment = rng.choice([n for n in range(8) if n != b.layout.code >> 29])
-    code = b.layout.code
+    segment = b.layout.other_segment(rng)
+    code = b.layout.code_segment
     alias = b.new_label("alias")
     if own == control.DMW1:
-        b.write_control(other, control.window(code >> 29, rng.randrange(1, 8), True, True))
+        b.write_control(other, control.window(code, rng.randrange(1, 8), True, True))
         scenarios_translation.access(b, b.page())
     else:
-        b.write_control(other, control.window(segment, code >> 29, True, True))
+        b.write_control(other, control.window(segment, code, True, True))
         b.asm.load_address(b.roles.value, alias, segment << 29)
-        b.emit("jirl", b.free(), b.roles.value, 0)
+        b.emit("jirl", b.registers.free(), b.roles.value, 0)
         b.asm.label(alias)
-        b.write_control(own, control.window(segment, (code >> 29) + 1, True, False))
+        b.write_control(own, control.window(segment, code + 1, True, False))
         scenarios_translation.access(b, b.page() & 0x1FFFFFFF | segment << 29)
         b.fold(b.roles.value)
 
@@ -120,13 +121,13 @@ def user_code(b: Builder) -> None:
     for _ in range(rng.randint(8, 20)):
         match rng.randrange(9):
             case 0 | 1:
-                b.filler(3)
+                filler.place(b, 3)
             case 2 | 3:
                 b.asm.word(scenarios_exceptions.privileged(b))
             case 4:
-                b.emit("rdcntvl.w", b.target())
+                b.emit("rdcntvl.w", b.registers.target())
             case 5:
-                base = b.free()
+                base = b.registers.free()
                 b.emit("pcaddu12i", base, rng.choice((0, 0, 1, 2)))
                 name = rng.choice(("ld.w", "ld.bu", "ld.h", "cacop", "st.b"))
                 b.emit(name, rng.choice((16, 17, 23)), base, rng.choice((0, 4, 8, 0x10)))
@@ -136,16 +137,16 @@ def user_code(b: Builder) -> None:
                 b.emit("break", values.code_15(rng))
             case _:
                 name = rng.choice(("rdcntid.w", "rdcntvh.w"))
-                b.emit(name, b.free())
+                b.emit(name, b.registers.free())
         if rng.random() < 0.3:
-            b.fold(b.free())
-    last = b.free()
+            b.fold(b.registers.free())
+    last = b.registers.free()
     b.emit("pcaddu12i", last, 0)
     b.fold(last)
     if rng.random() < 0.5:
         handlers.call_service(b, 0)
         b.move(b.roles.value, b.roles.link)
-        b.emit("jirl", b.free(), b.roles.value, 0)
+        b.emit("jirl", b.registers.free(), b.roles.value, 0)
     else:
         b.stop()
 
@@ -171,7 +172,7 @@ def user_mode(b: Builder) -> Program:
         b.write_control(control.DMW1, value)
     else:
         start = _map_user(b, page, data)
-    own = b.layout.code >> 29
+    own = b.layout.code_segment
     b.write_control(control.DMW0, control.window(own, own, True, False))
     b.write_control(control.PRMD, 7 if b.interrupting else 3)
     b.load(b.roles.value, start)
@@ -185,7 +186,7 @@ def user_mode(b: Builder) -> Program:
         user_code(b)
         if b.asm.position > page + PAGE:
             raise OutOfRoom("a user program of more than a page")
-    b.memory.extend((page, data))
+    b.read_at_end.extend((page, data))
     return b.finish(1500)
 
 
