@@ -44,9 +44,7 @@ pub(crate) fn first_turn() -> [Call; CALLS] {
         calls[3 * step] = Call::Pc;
         calls[3 * step + 1] = Call::Step { levels: 0 };
     }
-    for (number, call) in OTHERS.iter().enumerate() {
-        calls[STEP_CALLS + number] = *call;
-    }
+    calls[STEP_CALLS..].copy_from_slice(&OTHERS);
     calls
 }
 

@@ -114,7 +114,7 @@ pub(crate) const HANDLER: [u32; 18] = [
     0x0648_3800, // ertn
 ];
 
-// For a refill: the same, where r1 and r20 to r22 are not kept.
+// For a refill: it goes on as above. r1, r21 and r22 are not kept.
 pub(crate) const REFILL: [u32; 8] = [
     0x0400_1c15, // csrrd r21, 0x0007
     0x0400_1816, // csrrd r22, 0x0006

@@ -15,8 +15,8 @@ use layers::{Lock, Shift, Split};
 use machine::{RunningCore, UnresetCore};
 use parts::{Bank, Image};
 use places::{
-    BOOK, FIRST_MAKER, HANDLER, PAGE, PAGE_BYTES, REFILL, ROM, ROM_BYTES, SECOND_MAKER, VALVES,
-    valves_span,
+    BOOK, FIRST_MAKER_AT, HANDLER_AT, PAGE, PAGE_BYTES, REFILL_AT, ROM, ROM_BYTES, SECOND_MAKER_AT,
+    VALVES, valves_span,
 };
 use valves::Valves;
 
@@ -64,13 +64,13 @@ fn with_right_board<L: Bus>(rt: &HostRuntime, left: &mut L) -> anyhow::Result<()
 fn load_rom(rom: &mut [u8]) -> Result<(), Refusal> {
     let mut bank = Bank::new(ROM, rom);
     load(&mut bank, ROM, &images::START)?;
-    load(&mut bank, ROM.wrapping_add(HANDLER), &images::HANDLER)?;
-    load(&mut bank, ROM.wrapping_add(REFILL), &images::REFILL)?;
-    let first = ROM.wrapping_add(FIRST_MAKER);
+    load(&mut bank, ROM.wrapping_add(HANDLER_AT), &images::HANDLER)?;
+    load(&mut bank, ROM.wrapping_add(REFILL_AT), &images::REFILL)?;
+    let first = ROM.wrapping_add(FIRST_MAKER_AT);
     let tries = first.wrapping_add(FIRST_TRY - PROGRAM);
     load(&mut bank, first, &images::FIRST_ADDRESSES)?;
     load(&mut bank, tries, &images::tried_words())?;
-    let second = ROM.wrapping_add(SECOND_MAKER);
+    let second = ROM.wrapping_add(SECOND_MAKER_AT);
     load(&mut bank, second, &images::SECOND_PROGRAM)
 }
 
@@ -84,7 +84,8 @@ fn load<B: Bus>(bus: &mut B, at: PhysAddr, words: &[u32]) -> Result<(), Refusal>
     Ok(())
 }
 
-// Gives both machines the calls, and prints what they answer and what is withheld before and after.
+// Gives both machines the calls, prints what they answer and what is withheld before and after, and then gives the second maker its turn on
+// each.
 fn compare<L: Bus, R: Bus>(
     rt: &HostRuntime,
     left_board: &mut L,

@@ -17,13 +17,13 @@ pub(crate) const PAGE_BYTES: usize = 0x1000;
 pub(crate) const ROM_BYTES: usize = 0x3000;
 
 // In the ROM, from its base on. START has the handlers' addresses in its words, and the TLB entries those of the programs.
-pub(crate) const HANDLER: u32 = 0x200;
+pub(crate) const HANDLER_AT: u32 = 0x200;
 
-pub(crate) const REFILL: u32 = 0x280;
+pub(crate) const REFILL_AT: u32 = 0x280;
 
-pub(crate) const FIRST_MAKER: u32 = 0x1000;
+pub(crate) const FIRST_MAKER_AT: u32 = 0x1000;
 
-pub(crate) const SECOND_MAKER: u32 = 0x2000;
+pub(crate) const SECOND_MAKER_AT: u32 = 0x2000;
 
 pub(crate) fn valves_span() -> Span {
     Span::new(VALVES, BYTES)

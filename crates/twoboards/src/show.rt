@@ -1,4 +1,4 @@
-// Calls and answers as text.
+// What is printed: calls and answers, withheld words, orders.
 use crate::calls::STEP_CALLS;
 use crate::images::{FIRST_TRY, PROGRAM, TRIES};
 use crate::places::{BOOK, VALVES};
