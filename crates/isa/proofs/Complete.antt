@@ -20,52 +20,52 @@ use Rattle.isa.specs.declared.instruction.Instruction.{Instruction}
 use Rattle.isa.specs.declared.instruction.Instruction.TheVariants.{Rdcntid, Rdcntv, Register, Break, Syscall, Shift, Immediate, Csrrd, Csrwr, Csrxchg, Cacop, Tlb, Ertn, Idle, Invtlb, Upper, Ll, Sc, Load, Store, Preld, Dbar, Ibar, Jirl, B, Bl, Branch}
 use Rattle.isa.specs.Fields.{reg_of, reg_from_of, field_of, offs26_of}
 use Rattle.isa.specs.Table.{encode, form_2r, form_3r, form_i15, form_2ri12, form_2ri14, form_2ri16, form_1ri20, form_i26}
-use Rattle.isa.specs.Decoding.{counter_of, three_registers_of, shift_of, shifts_of, arithmetic_of, csr_of, tlb_of, cache_of, system_of, upper_of, atomic_of, memory_of, barrier_of, by_highest_bits, decode_of}
+use Rattle.isa.specs.Decoding.{counter_of, three_registers_of, shift_of, shifts_of, arithmetic_of, csr_of, tlb_and_waiting_of, cache_and_tlb_of, system_of, upper_of, atomic_of, memory_of, barrier_of, by_highest_bits, decode_of}
 use Rattle.isa.proofs.Equal.{reg_ext, reg_from_ext, field_ext}
 
--- Which group reads a word whose highest bits are n: at a literal n each of these computes to the row.
-to_top : (n w : ℕ) → w / 2 ^ 26 ≡ n → decode_of w ≡ by_highest_bits n w
+-- Which group has a word with the highest bits n. At a number that is written out, the group of n computes to its row.
+to_highest : (n w : ℕ) → w / 2 ^ 26 ≡ n → decode_of w ≡ by_highest_bits n w
 unfolding decode_of
-to_top n w e = ap (λ k. by_highest_bits k w) e
+to_highest n w e = ap (λ k. by_highest_bits k w) e
 
-to_arith : (n : ℕ) → n / 2 ^ 4 ≡ 0 → (w : ℕ) → w / 2 ^ 22 ≡ n → decode_of w ≡ arithmetic_of n w
-to_arith n h w e = to_top 0 w (omega arith) ∙ ap (λ k. arithmetic_of k w) e
+to_arithmetic : (n : ℕ) → n / 2 ^ 4 ≡ 0x00 → (w : ℕ) → w / 2 ^ 22 ≡ n → decode_of w ≡ arithmetic_of n w
+to_arithmetic n h w e = to_highest 0x00 w (omega arith) ∙ ap (λ k. arithmetic_of k w) e
 
-to_three : (n : ℕ) → n / 2 ^ 7 ≡ 0 → (w : ℕ) → w / 2 ^ 15 ≡ n → decode_of w ≡ three_registers_of n w
-to_three n h w e = to_arith 0 refl w (omega arith) ∙ ap (λ k. three_registers_of k w) e
+to_three : (n : ℕ) → n / 2 ^ 7 ≡ 0x00 → (w : ℕ) → w / 2 ^ 15 ≡ n → decode_of w ≡ three_registers_of n w
+to_three n h w e = to_arithmetic 0x00 refl w (omega arith) ∙ ap (λ k. three_registers_of k w) e
 
-to_shift : (n : ℕ) → n / 2 ^ 7 ≡ 1 → (w : ℕ) → w / 2 ^ 15 ≡ n → decode_of w ≡ shifts_of n w
-to_shift n h w e = to_arith 1 refl w (omega arith) ∙ ap (λ k. shifts_of k w) e
+to_shift : (n : ℕ) → n / 2 ^ 7 ≡ 0x01 → (w : ℕ) → w / 2 ^ 15 ≡ n → decode_of w ≡ shifts_of n w
+to_shift n h w e = to_arithmetic 0x01 refl w (omega arith) ∙ ap (λ k. shifts_of k w) e
 
-to_counter : (n : ℕ) → n / 2 ^ 5 ≡ 0 → (w : ℕ) → w / 2 ^ 10 ≡ n → decode_of w ≡ counter_of n w
-to_counter n h w e = to_three 0 refl w (omega arith) ∙ ap (λ k. counter_of k w) e
+to_counter : (n : ℕ) → n / 2 ^ 5 ≡ 0x00 → (w : ℕ) → w / 2 ^ 10 ≡ n → decode_of w ≡ counter_of n w
+to_counter n h w e = to_three 0x00 refl w (omega arith) ∙ ap (λ k. counter_of k w) e
 
-to_system : (n : ℕ) → n / 2 ^ 2 ≡ 1 → (w : ℕ) → w / 2 ^ 24 ≡ n → decode_of w ≡ system_of n w
-to_system n h w e = to_top 1 w (omega arith) ∙ ap (λ k. system_of k w) e
+to_system : (n : ℕ) → n / 2 ^ 2 ≡ 0x01 → (w : ℕ) → w / 2 ^ 24 ≡ n → decode_of w ≡ system_of n w
+to_system n h w e = to_highest 0x01 w (omega arith) ∙ ap (λ k. system_of k w) e
 
-to_csr : (n w : ℕ) → w / 2 ^ 24 ≡ 4 → w / 2 ^ 5 % 32 ≡ n → decode_of w ≡ Some (csr_of n w)
-to_csr n w t e = to_system 4 refl w t ∙ ap (λ k. Some (csr_of k w)) e
+to_csr : (n w : ℕ) → w / 2 ^ 24 ≡ 0x04 → w / 2 ^ 5 % 32 ≡ n → decode_of w ≡ Some (csr_of n w)
+to_csr n w t e = to_system 0x04 refl w t ∙ ap (λ k. Some (csr_of k w)) e
 
-to_cache : (n : ℕ) → n / 2 ^ 2 ≡ 6 → (w : ℕ) → w / 2 ^ 22 ≡ n → decode_of w ≡ cache_of n w
-to_cache n h w e = to_system 6 refl w (omega arith) ∙ ap (λ k. cache_of k w) e
+to_cache_and_tlb : (n : ℕ) → n / 2 ^ 2 ≡ 0x06 → (w : ℕ) → w / 2 ^ 22 ≡ n → decode_of w ≡ cache_and_tlb_of n w
+to_cache_and_tlb n h w e = to_system 0x06 refl w (omega arith) ∙ ap (λ k. cache_and_tlb_of k w) e
 
-to_tlb : (n : ℕ) → n / 2 ^ 7 ≡ 25 → (w : ℕ) → w / 2 ^ 15 ≡ n → decode_of w ≡ tlb_of n w
-to_tlb n h w e = to_cache 25 refl w (omega arith) ∙ ap (λ k. tlb_of k w) e
+to_tlb_and_waiting : (n : ℕ) → n / 2 ^ 7 ≡ 0x19 → (w : ℕ) → w / 2 ^ 15 ≡ n → decode_of w ≡ tlb_and_waiting_of n w
+to_tlb_and_waiting n h w e = to_cache_and_tlb 0x19 refl w (omega arith) ∙ ap (λ k. tlb_and_waiting_of k w) e
 
-to_low : (n : ℕ) → n / 2 ≡ 5 → (w : ℕ) → w / 2 ^ 25 ≡ n → decode_of w ≡ upper_of n w
-to_low n h w e = to_top 5 w (omega arith) ∙ ap (λ k. upper_of k w) e
+to_lu12i : (n : ℕ) → n / 2 ≡ 0x05 → (w : ℕ) → w / 2 ^ 25 ≡ n → decode_of w ≡ upper_of n w
+to_lu12i n h w e = to_highest 0x05 w (omega arith) ∙ ap (λ k. upper_of k w) e
 
-to_pc : (n : ℕ) → n / 2 ≡ 7 → (w : ℕ) → w / 2 ^ 25 ≡ n → decode_of w ≡ upper_of n w
-to_pc n h w e = to_top 7 w (omega arith) ∙ ap (λ k. upper_of k w) e
+to_pcaddu12i : (n : ℕ) → n / 2 ≡ 0x07 → (w : ℕ) → w / 2 ^ 25 ≡ n → decode_of w ≡ upper_of n w
+to_pcaddu12i n h w e = to_highest 0x07 w (omega arith) ∙ ap (λ k. upper_of k w) e
 
-to_atomic : (n : ℕ) → n / 2 ^ 2 ≡ 8 → (w : ℕ) → w / 2 ^ 24 ≡ n → decode_of w ≡ atomic_of n w
-to_atomic n h w e = to_top 8 w (omega arith) ∙ ap (λ k. atomic_of k w) e
+to_atomic : (n : ℕ) → n / 2 ^ 2 ≡ 0x08 → (w : ℕ) → w / 2 ^ 24 ≡ n → decode_of w ≡ atomic_of n w
+to_atomic n h w e = to_highest 0x08 w (omega arith) ∙ ap (λ k. atomic_of k w) e
 
-pub to_memory : (n : ℕ) → n / 2 ^ 4 ≡ 10 → (w : ℕ) → w / 2 ^ 22 ≡ n → decode_of w ≡ memory_of n w
-to_memory n h w e = to_top 10 w (omega arith) ∙ ap (λ k. memory_of k w) e
+pub to_memory : (n : ℕ) → n / 2 ^ 4 ≡ 0x0a → (w : ℕ) → w / 2 ^ 22 ≡ n → decode_of w ≡ memory_of n w
+to_memory n h w e = to_highest 0x0a w (omega arith) ∙ ap (λ k. memory_of k w) e
 
-to_barrier : (n : ℕ) → n / 2 ^ 11 ≡ 14 → (w : ℕ) → w / 2 ^ 15 ≡ n → decode_of w ≡ barrier_of n w
-to_barrier n h w e = to_top 14 w (omega arith) ∙ ap (λ k. barrier_of k w) e
+to_barrier : (n : ℕ) → n / 2 ^ 11 ≡ 0x0e → (w : ℕ) → w / 2 ^ 15 ≡ n → decode_of w ≡ barrier_of n w
+to_barrier n h w e = to_highest 0x0e w (omega arith) ∙ ap (λ k. barrier_of k w) e
 
 -- Each form: its fields come back out of its word.
 read_3r : (make : Reg → Reg → Reg → Instruction) (n : ℕ) (rd rj rk : Reg)
@@ -169,10 +169,10 @@ read_i26 make n v to =
     to w h.0 ∙ (λ i. Some (make (k i)))
 
 read_csr : (make : Reg → Field 14 → Instruction) (r : ℕ) (rd : Reg) (v : Field 14) → r < 32
-    → ((w : ℕ) → w / 2 ^ 24 ≡ 4 → w / 2 ^ 5 % 32 ≡ r → decode_of w ≡ Some (make (reg_of w) (field_of 14 (w / 2 ^ 10))))
-    → decode_of (form_2ri14 4 v.value r rd.index) ≡ Some (make rd v)
+    → ((w : ℕ) → w / 2 ^ 24 ≡ 0x04 → w / 2 ^ 5 % 32 ≡ r → decode_of w ≡ Some (make (reg_of w) (field_of 14 (w / 2 ^ 10))))
+    → decode_of (form_2ri14 0x04 v.value r rd.index) ≡ Some (make rd v)
 read_csr make r rd v h to =
-    let w : ℕ = form_2ri14 4 v.value r rd.index in
+    let w : ℕ = form_2ri14 0x04 v.value r rd.index in
     let d : reg_of w ≡ rd = reg_ext _ _ (omega arith) in
     let k : field_of 14 (w / 2 ^ 10) ≡ v = field_ext 14 _ _ (omega arith) in
     to w (omega arith) (omega arith) ∙ (λ i. Some (make (d i) (k i)))
@@ -237,25 +237,25 @@ complete (Syscall v) = read_i15 Syscall 0x56 v (to_three 0x56 refl)
 complete (Shift SlliW rd rj v) = read_shift SlliW 0x81 rd rj v (to_shift 0x81 refl)
 complete (Shift SrliW rd rj v) = read_shift SrliW 0x89 rd rj v (to_shift 0x89 refl)
 complete (Shift SraiW rd rj v) = read_shift SraiW 0x91 rd rj v (to_shift 0x91 refl)
-complete (Immediate Slti rd rj v) = read_2ri12 (Immediate Slti) 0x8 rd rj v (to_arith 0x8 refl)
-complete (Immediate Sltui rd rj v) = read_2ri12 (Immediate Sltui) 0x9 rd rj v (to_arith 0x9 refl)
-complete (Immediate AddiW rd rj v) = read_2ri12 (Immediate AddiW) 0xa rd rj v (to_arith 0xa refl)
-complete (Immediate Andi rd rj v) = read_2ri12 (Immediate Andi) 0xd rd rj v (to_arith 0xd refl)
-complete (Immediate Ori rd rj v) = read_2ri12 (Immediate Ori) 0xe rd rj v (to_arith 0xe refl)
-complete (Immediate Xori rd rj v) = read_2ri12 (Immediate Xori) 0xf rd rj v (to_arith 0xf refl)
+complete (Immediate Slti rd rj v) = read_2ri12 (Immediate Slti) 0x08 rd rj v (to_arithmetic 0x08 refl)
+complete (Immediate Sltui rd rj v) = read_2ri12 (Immediate Sltui) 0x09 rd rj v (to_arithmetic 0x09 refl)
+complete (Immediate AddiW rd rj v) = read_2ri12 (Immediate AddiW) 0x0a rd rj v (to_arithmetic 0x0a refl)
+complete (Immediate Andi rd rj v) = read_2ri12 (Immediate Andi) 0x0d rd rj v (to_arithmetic 0x0d refl)
+complete (Immediate Ori rd rj v) = read_2ri12 (Immediate Ori) 0x0e rd rj v (to_arithmetic 0x0e refl)
+complete (Immediate Xori rd rj v) = read_2ri12 (Immediate Xori) 0x0f rd rj v (to_arithmetic 0x0f refl)
 complete (Csrrd rd v) = read_csr Csrrd 0 rd v (omega arith) (to_csr 0)
 complete (Csrwr rd v) = read_csr Csrwr 1 rd v (omega arith) (to_csr 1)
 complete (Csrxchg rd rj v) = read_csrxchg rd rj v
-complete (Cacop c rj v) = read_hinted Cacop 0x18 c rj v (to_cache 0x18 refl)
+complete (Cacop c rj v) = read_hinted Cacop 0x18 c rj v (to_cache_and_tlb 0x18 refl)
 complete (Tlb Tlbsrch) = refl
 complete (Tlb Tlbrd) = refl
 complete (Tlb Tlbwr) = refl
 complete (Tlb Tlbfill) = refl
 complete Ertn = refl
-complete (Idle v) = read_i15 Idle 0xc91 v (to_tlb 0xc91 refl)
-complete (Invtlb op rj rk) = read_invtlb 0xc93 op rj rk (to_tlb 0xc93 refl)
-complete (Upper Lu12iW rd v) = read_1ri20 Lu12iW 0x0a rd v (to_low 0x0a refl)
-complete (Upper Pcaddu12i rd v) = read_1ri20 Pcaddu12i 0x0e rd v (to_pc 0x0e refl)
+complete (Idle v) = read_i15 Idle 0xc91 v (to_tlb_and_waiting 0xc91 refl)
+complete (Invtlb op rj rk) = read_invtlb 0xc93 op rj rk (to_tlb_and_waiting 0xc93 refl)
+complete (Upper Lu12iW rd v) = read_1ri20 Lu12iW 0x0a rd v (to_lu12i 0x0a refl)
+complete (Upper Pcaddu12i rd v) = read_1ri20 Pcaddu12i 0x0e rd v (to_pcaddu12i 0x0e refl)
 complete (Ll rd rj v) = read_2ri14 Ll 0x20 rd rj v (to_atomic 0x20 refl)
 complete (Sc rd rj v) = read_2ri14 Sc 0x21 rd rj v (to_atomic 0x21 refl)
 complete (Load LdB rd rj v) = read_2ri12 (Load LdB) 0xa0 rd rj v (to_memory 0xa0 refl)
@@ -269,12 +269,12 @@ complete (Store StW rd rj v) = read_2ri12 (Store StW) 0xa6 rd rj v (to_memory 0x
 complete (Preld c rj v) = read_hinted Preld 0xab c rj v (to_memory 0xab refl)
 complete (Dbar v) = read_i15 Dbar 0x70e4 v (to_barrier 0x70e4 refl)
 complete (Ibar v) = read_i15 Ibar 0x70e5 v (to_barrier 0x70e5 refl)
-complete (Jirl rd rj v) = read_2ri16 Jirl 0x13 rd rj v (to_top 0x13)
-complete (B v) = read_i26 B 0x14 v (to_top 0x14)
-complete (Bl v) = read_i26 Bl 0x15 v (to_top 0x15)
-complete (Branch Beq rj rd v) = read_2ri16 (λ d j k. Branch Beq j d k) 0x16 rd rj v (to_top 0x16)
-complete (Branch Bne rj rd v) = read_2ri16 (λ d j k. Branch Bne j d k) 0x17 rd rj v (to_top 0x17)
-complete (Branch Blt rj rd v) = read_2ri16 (λ d j k. Branch Blt j d k) 0x18 rd rj v (to_top 0x18)
-complete (Branch Bge rj rd v) = read_2ri16 (λ d j k. Branch Bge j d k) 0x19 rd rj v (to_top 0x19)
-complete (Branch Bltu rj rd v) = read_2ri16 (λ d j k. Branch Bltu j d k) 0x1a rd rj v (to_top 0x1a)
-complete (Branch Bgeu rj rd v) = read_2ri16 (λ d j k. Branch Bgeu j d k) 0x1b rd rj v (to_top 0x1b)
+complete (Jirl rd rj v) = read_2ri16 Jirl 0x13 rd rj v (to_highest 0x13)
+complete (B v) = read_i26 B 0x14 v (to_highest 0x14)
+complete (Bl v) = read_i26 Bl 0x15 v (to_highest 0x15)
+complete (Branch Beq rj rd v) = read_2ri16 (λ d j k. Branch Beq j d k) 0x16 rd rj v (to_highest 0x16)
+complete (Branch Bne rj rd v) = read_2ri16 (λ d j k. Branch Bne j d k) 0x17 rd rj v (to_highest 0x17)
+complete (Branch Blt rj rd v) = read_2ri16 (λ d j k. Branch Blt j d k) 0x18 rd rj v (to_highest 0x18)
+complete (Branch Bge rj rd v) = read_2ri16 (λ d j k. Branch Bge j d k) 0x19 rd rj v (to_highest 0x19)
+complete (Branch Bltu rj rd v) = read_2ri16 (λ d j k. Branch Bltu j d k) 0x1a rd rj v (to_highest 0x1a)
+complete (Branch Bgeu rj rd v) = read_2ri16 (λ d j k. Branch Bgeu j d k) 0x1b rd rj v (to_highest 0x1b)

@@ -1,5 +1,6 @@
 -- Decoding is the inverse of the table.
 use Rattle.std.proofs.Common.{◌≡◌, ℕ, Some, None, Option, sym, refl, ap, ◌∙◌}
+use Rattle.std.proofs.lemmas.Option.{same_Some}
 use Rattle.isa.specs.declared.instruction.Instruction.{Instruction}
 use Rattle.isa.specs.Table.{encode, Exact}
 use Rattle.isa.specs.Decoding.{decode_of}
@@ -8,10 +9,7 @@ use Rattle.isa.proofs.Complete.{complete}
 
 undefined : (w : ℕ) (r : Option Instruction) → ((i : Instruction) → r ≡ Some i → encode i ≡ w) → ((i : Instruction) → encode i ≡ w → ⊥) → r ≡ None
 undefined w None s none = refl
-undefined w (Some i) s none = elim (none i (s i refl)) [ ]
-
-some_same : (i j : Instruction) → Some i ≡ Some j → i ≡ j
-some_same i j e = cc
+undefined w (Some i) s none = absurd (none i (s i refl))
 
 pub exact : (w : ℕ) → Exact w (decode_of w)
 exact w =
@@ -20,5 +18,5 @@ exact w =
       sound = sound w (decode_of w) (right w);
       complete = of_word;
       undefined = undefined w (decode_of w) (sound w (decode_of w) (right w));
-      alone = λ i j e f. some_same i j (sym (of_word i e) ∙ of_word j f);
+      alone = λ i j e f. same_Some i j (sym (of_word i e) ∙ of_word j f);
     }

@@ -105,23 +105,23 @@ whole_word_of w = choose w
     ∷ (0x06483800, Some Ertn)
     ∷ [])
 
-abbrev pub tlb_of : ℕ → ℕ → Option Instruction
-tlb_of n w = choose n
+abbrev pub tlb_and_waiting_of : ℕ → ℕ → Option Instruction
+tlb_and_waiting_of n w = choose n
     ((0xc90, whole_word_of w)
     ∷ (0xc91, Some (Idle (field_of 15 w)))
     ∷ (0xc93, Some (Invtlb (field_of 5 w) (reg_of (w / 2 ^ 5)) (reg_of (w / 2 ^ 10))))
     ∷ [])
 
-abbrev pub cache_of : ℕ → ℕ → Option Instruction
-cache_of n w = choose n
+abbrev pub cache_and_tlb_of : ℕ → ℕ → Option Instruction
+cache_and_tlb_of n w = choose n
     ((0x18, Some (Cacop (field_of 5 w) (reg_of (w / 2 ^ 5)) (field_of 12 (w / 2 ^ 10))))
-    ∷ (0x19, tlb_of (w / 2 ^ 15) w)
+    ∷ (0x19, tlb_and_waiting_of (w / 2 ^ 15) w)
     ∷ [])
 
 abbrev pub system_of : ℕ → ℕ → Option Instruction
 system_of n w =
     cond (n == 0x04) (Some (csr_of (w / 2 ^ 5 % 32) w))
-    (cache_of (w / 2 ^ 22) w)
+    (cache_and_tlb_of (w / 2 ^ 22) w)
 
 abbrev pub upper_of : ℕ → ℕ → Option Instruction
 upper_of n w = choose n

@@ -1,4 +1,4 @@
--- Which instructions are refused in PLV3.
+-- Which instructions raise the exception IPE in PLV3.
 use Rattle.std.specs.Prelude.{◌/◌, ◌^◌, Bool, true, false, not, ◌==◌}
 use Rattle.isa.specs.declared.field.Field.{Field}
 use Rattle.isa.specs.declared.instruction.Instruction.{Instruction}

@@ -1,8 +1,9 @@
-// How a word is read: by its ten highest bits where they tell its row or its group, else by the highest six, then by those below that are
-// still open.
+// Decoding. The definition (`by_highest_bits`) goes by a word's six highest bits first. The code looks at the ten highest first (`by_ten_bits`): they tell
+// arithmetic, loads and stores, which programs mostly do, by one jump through a table, where six bits and then ten take two. What they leave goes by
+// six (`by_six_bits`). Rows that share these bits are told apart by lower ones, in a function for each group.
 ghost use Rattle.std.specs.Prelude.{◌≡◌, ◌/◌, ◌%◌, ◌^◌, Some, None};
 ghost use Rattle.isa.specs.Table.{Exact, HaveWords};
-ghost use Rattle.isa.specs.Decoding.{counter_of, register_of, three_registers_of, shift_of, shifts_of, immediate_of, arithmetic_of, csr_of, whole_word_of, tlb_of, system_of, upper_of, atomic_of, load_of, store_of, memory_of, barrier_of, branch_of, by_highest_bits, decode_of};
+ghost use Rattle.isa.specs.Decoding.{counter_of, register_of, three_registers_of, shift_of, shifts_of, immediate_of, arithmetic_of, csr_of, whole_word_of, tlb_and_waiting_of, system_of, upper_of, atomic_of, load_of, store_of, memory_of, barrier_of, branch_of, by_highest_bits, decode_of};
 
 use crate::instruction::{
     BranchOp, CounterHalf, ImmediateOp, Instruction, LoadOp, RegisterOp, ShiftOp, StoreOp, TlbOp,
@@ -132,8 +133,8 @@ fn whole_word(word: u32) -> Option<Instruction>
     }
 }
 
-fn tlb(word: u32) -> Option<Instruction>
-    ensures { result ≡ tlb_of (word / 2 ^ 15) word }
+fn tlb_and_waiting(word: u32) -> Option<Instruction>
+    ensures { result ≡ tlb_and_waiting_of (word / 2 ^ 15) word }
 {
     match word >> 15 {
         0xc90 => whole_word(word),
@@ -234,7 +235,9 @@ fn branch(op: BranchOp, word: u32) -> Instruction
     }
 }
 
-// A word of whose ten highest bits there is no row, by the highest six.
+// The rest of the table, by the six highest bits, for a word that no arm of `by_ten_bits` takes. The definition leads six bits of 0x00, 0x01 and 0x0a on to
+// arithmetic, the system and memory. Every row of these three is an arm of `by_ten_bits`, so none of them has this word: that is what the conditions say,
+// and why those six bits come to `_` here.
 fn by_six_bits(word: u32) -> Option<Instruction>
     requires arithmetic { arithmetic_of (word / 2 ^ 22) word ≡ None }
     requires system { system_of (word / 2 ^ 24) word ≡ None }
@@ -266,7 +269,7 @@ fn by_six_bits(word: u32) -> Option<Instruction>
     }
 }
 
-// Arithmetic, the system and memory are told by ten bits, so that one jump finds what programs mostly do.
+// Arithmetic, the system's instructions, and loads and stores but for LL.W and SC.W, by the ten highest bits: one jump finds what programs mostly do.
 fn by_ten_bits(word: u32) -> Option<Instruction>
     ensures { result ≡ by_highest_bits (word / 2 ^ 26) word }
 {
@@ -279,13 +282,14 @@ fn by_ten_bits(word: u32) -> Option<Instruction>
         0x0d => Some(immediate(ImmediateOp::Andi, word)),
         0x0e => Some(immediate(ImmediateOp::Ori, word)),
         0x0f => Some(immediate(ImmediateOp::Xori, word)),
+        // CSRRD, CSRWR and CSRXCHG have eight fixed bits. The other two of the ten are the highest of the control register's number, so they may be anything.
         0x10 | 0x11 | 0x12 | 0x13 => Some(csr(word)),
         0x18 => Some(Instruction::Cacop {
             code: low_bits(word),
             rj: rj(word),
             si12: low_bits(word >> 10),
         }),
-        0x19 => tlb(word),
+        0x19 => tlb_and_waiting(word),
         0xa0 => Some(load(LoadOp::LdB, word)),
         0xa1 => Some(load(LoadOp::LdH, word)),
         0xa2 => Some(load(LoadOp::LdW, word)),

@@ -13,7 +13,7 @@ pub fn is_hit(code: Field<5>) -> bool
 }
 
 impl Instruction {
-    // Whether it is refused in PLV3.
+    // Whether it raises the exception IPE in PLV3.
     pub fn is_privileged(self) -> bool
         ensures { result ≡ privileged self }
     {

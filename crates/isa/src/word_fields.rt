@@ -15,13 +15,13 @@ pub(crate) fn rd(word: u32) -> Reg
 pub(crate) fn rj(word: u32) -> Reg
     ensures { result ≡ reg_of (word / 2 ^ 5) }
 {
-    rd(word >> 5)
+    Reg::of_low_bits(word >> 5)
 }
 
 pub(crate) fn rk(word: u32) -> Reg
     ensures { result ≡ reg_of (word / 2 ^ 10) }
 {
-    rd(word >> 10)
+    Reg::of_low_bits(word >> 10)
 }
 
 // The definition takes the fact that LEAST is a register's number, here by the name `fits`.

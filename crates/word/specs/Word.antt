@@ -47,7 +47,7 @@ shift_right_signed a amount = low_word (shr_z (signed a) (2 ^ (amount % 32)))
 abbrev pub product_signed : ℕ → ℕ → ℕ
 product_signed a b = low_bits 64 (signed a *ℤ signed b)
 
--- product[31:0], product[63:32]
+-- product[31:0], product[63:32]; the lower half is the same for signed and unsigned numbers
 abbrev pub product_low : ℕ → ℕ → ℕ
 product_low a b = product_signed a b % 2 ^ 32
 
@@ -57,7 +57,7 @@ product_high_signed a b = product_signed a b / 2 ^ 32
 abbrev pub product_high_unsigned : ℕ → ℕ → ℕ
 product_high_unsigned a b = a * b / 2 ^ 32
 
--- quotients, rounded to zero, and remainders, with the dividend's sign
+-- quotients, rounded to zero, and remainders, with the dividend's sign. By 0 the manual allows any result: ours are a quotient of ones and the dividend as remainder. The one quotient that is no signed word, of 0x80000000 by -1, keeps its low 32 bits.
 abbrev pub quotient_signed : ℕ → ℕ → ℕ
 quotient_signed a b = cond (b == 0) 0xffffffff (low_word (int_div (signed a) (signed b)))
 

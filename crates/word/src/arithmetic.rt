@@ -68,7 +68,7 @@ pub fn shift_right_signed(a: u32, amount: u32) -> u32
     a.cast_signed().wrapping_shr(amount).cast_unsigned()
 }
 
-fn signed_product(a: i32, b: i32) -> i64
+fn integer_product(a: i32, b: i32) -> i64
     ensures { result ≡ a *ℤ b }
 {
     i64::from(a) * i64::from(b)
@@ -77,7 +77,7 @@ fn signed_product(a: i32, b: i32) -> i64
 fn product_signed(a: u32, b: u32) -> u64
     ensures { result ≡ product_signed a b }
 {
-    signed_product(a.cast_signed(), b.cast_signed()).cast_unsigned()
+    integer_product(a.cast_signed(), b.cast_signed()).cast_unsigned()
 }
 
 pub fn product_low(a: u32, b: u32) -> u32
