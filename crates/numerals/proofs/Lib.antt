@@ -1,2 +1,2 @@
-pub mod Decimals
-pub mod Hexadecimals
+mod Decimals
+mod Hexadecimals

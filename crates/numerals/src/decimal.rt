@@ -5,11 +5,11 @@ ghost use Rattle.numerals.specs.Decimal.{is_decimal_field, decimal_value, withou
 
 pub use itoa::Buffer;
 
-// The most digits of a field.
+// Of one more digit not every number would fit a word.
 const MOST_DIGITS: usize = 9;
 
 // A part of a text that is a number of one to nine digits, zeros before it allowed.
-#[derive(Clone, Copy)]
+#[derive(Clone, Copy, PartialEq, Eq, Debug)]
 pub struct DecimalField<'a> {
     digits: &'a [u8],
     ghost form: { is_decimal_field digits.now ≡ true },
@@ -30,14 +30,14 @@ impl<'a> DecimalField<'a> {
     pub fn new(text: &'a [u8]) -> Option<DecimalField<'a>>
         ensures { MatchOption result (is_decimal_field text.now ≡ false) (λ field. field.digits.now ≡ text.now) }
     {
-        if text.len() >= 1 && text.len() <= MOST_DIGITS && are_digits(text) {
+        if (1..=MOST_DIGITS).contains(&text.len()) && are_digits(text) {
             Some(DecimalField { digits: text })
         } else {
             None
         }
     }
 
-    #[tactic(auto, using(crate::proofs::Decimals::room))]
+    #[tactic(auto, using(crate::proofs::Decimals::fewer_digits))]
     pub fn value(self) -> u32
         ensures value { result ≡ decimal_value self.entry.digits.now }
 

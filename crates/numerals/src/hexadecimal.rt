@@ -1,9 +1,11 @@
 // Words in eight hexadecimal digits, those above 9 in upper case.
 ghost use Rattle.std.specs.Prelude.{◌≡◌, ◌<◌, true, MatchOption, false};
-ghost use Rattle.numerals.specs.Hexadecimal.{is_hex_digit, hex_digit_value, all_hex_digits, is_hex_field, hex_value, hex_digit, hex_text};
+ghost use Rattle.std.specs.Char.{digit_value};
+ghost use Rattle.std.specs.Fmt.{digit_glyph};
+ghost use Rattle.numerals.specs.Hexadecimal.{is_hex_digit, all_hex_digits, is_hex_field, hex_value, hex_text};
 
 // A part of a text that is a word in hexadecimal digits.
-#[derive(Clone, Copy)]
+#[derive(Clone, Copy, PartialEq, Eq, Debug)]
 pub struct HexField<'a> {
     digits: &'a [u8],
     ghost form: { is_hex_field digits.now ≡ true },
@@ -12,7 +14,7 @@ pub struct HexField<'a> {
 fn is_hex_digit(byte: u8) -> bool
     ensures { result ≡ is_hex_digit byte }
 {
-    byte.is_ascii_digit() || (b'A' <= byte && byte <= b'F')
+    byte.is_ascii_digit() || (b'A'..=b'F').contains(&byte)
 }
 
 fn are_hex_digits(text: &[u8]) -> bool
@@ -28,7 +30,7 @@ fn are_hex_digits(text: &[u8]) -> bool
 
 fn digit_value(byte: u8) -> u32
     requires { is_hex_digit byte ≡ true }
-    ensures value { result ≡ hex_digit_value byte }
+    ensures value { result ≡ digit_value byte }
     ensures small { result < 16 }
 {
     if byte <= b'9' {
@@ -49,7 +51,7 @@ impl<'a> HexField<'a> {
         }
     }
 
-    #[tactic(auto, using(crate::proofs::Hexadecimals::room))]
+    #[tactic(auto, using(crate::proofs::Hexadecimals::fewer_digits))]
     pub fn value(self) -> u32
         ensures value { result ≡ hex_value self.entry.digits.now }
 
@@ -66,7 +68,7 @@ impl<'a> HexField<'a> {
 
 fn hex_digit(number: u32) -> u8
     requires { number < 16 }
-    ensures { result ≡ hex_digit number }
+    ensures { result ≡ digit_glyph true number }
 {
     if number < 10 {
         b'0' + number as u8

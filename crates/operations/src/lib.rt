@@ -1,4 +1,4 @@
-//! What the operations of the instruction set give.
+//! What each instruction gives, by its mnemonic: arithmetic, whether a branch is taken, what a load leaves, how wide accesses are.
 #![tactic(auto)]
 
 pub mod access;

@@ -16,9 +16,9 @@ first_line (b ∷ c ∷ bs) some = by_feed (b == 10) refl (first_line (c ∷ bs)
     by_feed true e rest = rw e refl
     by_feed false e rest = rw (e, rest) refl
 
-pub within : (text : List ℕ) → line_length text ≤ length text
-within [] = omega arith
-within (b ∷ bs) = grind (arith, within bs)
+pub line_length_within : (text : List ℕ) → line_length text ≤ length text
+line_length_within [] = omega arith
+line_length_within (b ∷ bs) = grind (arith, line_length_within bs)
 
 has_a_byte : (text : List ℕ) → 0 < length text → 0 < line_length text
 has_a_byte [] some = absurd (omega arith)
@@ -44,10 +44,10 @@ ended (b ∷ c ∷ cs) some = by_feed (b == 10) refl (ended (c ∷ cs) (omega ar
     by_feed false e (inl feed) some = let at : line_length (b ∷ c ∷ cs) - 1 ≡ suc (line_length (c ∷ cs) - 1) = grind (arith, e, some) in inl (ap (slice_index (b ∷ c ∷ cs)) at ∙ feed)
     by_feed false e (inr whole) some = inr (grind (arith, e, whole))
 
-pub law : (text : List ℕ) → 0 < length text → FirstLine text (take (line_length text) text) (drop (line_length text) text)
-law text some =
+pub is_first_line : (text : List ℕ) → 0 < length text → FirstLine text (take (line_length text) text) (drop (line_length text) text)
+is_first_line text some =
     let n : ℕ = line_length text in
-    let long : length (take n text) ≡ n = omega (arith, length-take n text, within text) in
+    let long : length (take n text) ≡ n = omega (arith, length-take n text, line_length_within text) in
     record {
       together = sym (take-append-drop n text);
       has_a_byte = omega (arith, long, has_a_byte text some);

@@ -1,16 +1,15 @@
 -- A line is read as a form exactly if it is that form's text.
-use Rattle.std.proofs.Common.{◌≡◌, refl, sym, ap, ◌∙◌, subst, ℕ, zero, suc, ◌+◌, ◌-◌, ◌<◌, ◌≤◌, Bool, true, false, ◌&&◌, cond, List, [], ◌∷◌, ◌++◌, length, take, drop, get_or, slice_index, Some, None, Option, ◌==◌, nat_le, arith, append_assoc}
+use Rattle.std.proofs.Common.{◌≡◌, refl, sym, ap, ◌∙◌, subst, ℕ, suc, ◌+◌, ◌-◌, ◌<◌, ◌≤◌, Bool, true, false, ◌&&◌, cond, List, [], ◌∷◌, ◌++◌, length, take, drop, get_or, slice_index, Some, None, Option, ◌==◌, nat_le, arith, append_assoc}
 use Rattle.std.proofs.lemmas.Bool.{and_parts, eqb-true, leb-true, le-leb, eq-eqb, and_from}
 use Rattle.std.proofs.lemmas.Option.{cond_some, none-some}
-use Rattle.std.proofs.lemmas.List.{length-append}
+use Rattle.std.proofs.lemmas.List.{length-append, set-get_or, set_split, take_all, take_more}
 use Rattle.std.proofs.Math.Seq.{take-append_seam, drop-append-add, get_or-append_seam}
 use Rattle.numerals.specs.Decimal.{is_decimal_field}
 use Rattle.numerals.specs.Hexadecimal.{is_hex_field, all_hex_digits}
-use Rattle.setup.specs.Lines.{Form, write, run, register, line_feed, line_text, well_formed, Exact, form_if, write_in, run_in, register_in, form_by, is_framed, fields_of, form_of}
+use Rattle.setup.specs.Lines.{Form, write, run, register, line_feed, line_text, well_formed, Exact, form_if, as_write, as_run, as_register, form_by, is_framed, fields_of, form_of}
 
 last_apart : (b : ℕ) (bs : List ℕ) → b ∷ bs ≡ take (length bs) (b ∷ bs) ++ (get_or (b ∷ bs) (length bs) 0 ∷ [])
-last_apart b [] = refl
-last_apart b (c ∷ cs) = ap (λ bs. b ∷ bs) (last_apart c cs)
+last_apart b bs = sym (take_all (length bs + 1) (b ∷ bs) (omega arith)) ∙ take_more (b ∷ bs) (length bs) 0 (omega arith)
 
 framed_parts : (line : List ℕ) → is_framed line ≡ true → (3 ≤ length line) × (slice_index line 1 ≡ 44) × (slice_index line (length line - 1) ≡ 10)
 framed_parts line framed =
@@ -43,7 +42,7 @@ framed_read letter fields =
     let framed : is_framed line ≡ true = and_from (nat_le 3 (length line)) (slice_index line (length line - 1) == 10) long (eq-eqb (slice_index line (length line - 1)) 10 last) in
     rw (framed, inner) refl
 
-pair_read : (address value : List ℕ) → length address ≡ 8 → length value ≡ 8 → write_in (address ++ (44 ∷ value)) ≡ form_if (is_hex_field address && is_hex_field value) (write address value)
+pair_read : (address value : List ℕ) → length address ≡ 8 → length value ≡ 8 → as_write (address ++ (44 ∷ value)) ≡ form_if (is_hex_field address && is_hex_field value) (write address value)
 pair_read address value eight also =
     let fields : List ℕ = address ++ (44 ∷ value) in
     let long : length fields ≡ 17 = omega (arith, length-append address (44 ∷ value), eight, also) in
@@ -58,11 +57,9 @@ cond_then true x f e = (refl, e)
 cond_then false x f e = absurd (none-some f e)
 
 parted : (i : ℕ) (xs : List ℕ) → i < length xs → xs ≡ take i xs ++ (slice_index xs i ∷ drop (suc i) xs)
-parted i [] within = absurd (omega arith)
-parted zero (x ∷ xs) within = refl
-parted (suc i) (x ∷ xs) within = ap (λ ys. x ∷ ys) (parted i xs (omega arith))
+parted i xs within = sym (set-get_or xs i 0) ∙ set_split xs i (slice_index xs i) within
 
-sound_write : (fields : List ℕ) (f : Form) → write_in fields ≡ Some f → (well_formed f ≡ true) × (line_text f ≡ 119 ∷ 44 ∷ (fields ++ line_feed))
+sound_write : (fields : List ℕ) (f : Form) → as_write fields ≡ Some f → (well_formed f ≡ true) × (line_text f ≡ 119 ∷ 44 ∷ (fields ++ line_feed))
 sound_write fields f read =
     let fits = cond_then (length fields == 17 && slice_index fields 8 == 44) (form_if (is_hex_field (take 8 fields) && is_hex_field (drop 9 fields)) (write (take 8 fields) (drop 9 fields))) f read in
     let marks = and_parts (length fields == 17) (slice_index fields 8 == 44) fits.0 in
@@ -84,22 +81,22 @@ sound_by : (letter : ℕ) (fields : List ℕ) (f : Form) → form_by letter fiel
 sound_by letter fields f read = by_write (letter == 119) refl
   where
     register_after : Option Form
-    register_after = cond (letter == 114) (register_in fields) None
+    register_after = cond (letter == 114) (as_register fields) None
 
     run_after : Option Form
-    run_after = cond (letter == 103) (run_in fields) register_after
+    run_after = cond (letter == 103) (as_run fields) register_after
 
-    by_run : (t : Bool) → (letter == 103) ≡ t → cond t (run_in fields) register_after ≡ Some f → (well_formed f ≡ true) × (line_text f ≡ letter ∷ 44 ∷ (fields ++ line_feed))
+    by_run : (t : Bool) → (letter == 103) ≡ t → cond t (as_run fields) register_after ≡ Some f → (well_formed f ≡ true) × (line_text f ≡ letter ∷ 44 ∷ (fields ++ line_feed))
     by_run true e r = sound_number 103 (is_decimal_field fields) (run fields) f letter fields (eqb-true letter 103 e) refl refl r
     by_run false e r =
-        let found = cond_then (letter == 114) (register_in fields) f r in
+        let found = cond_then (letter == 114) (as_register fields) f r in
         sound_number 114 (is_decimal_field fields) (register fields) f letter fields (eqb-true letter 114 found.0) refl refl found.1
 
     by_write : (t : Bool) → (letter == 119) ≡ t → (well_formed f ≡ true) × (line_text f ≡ letter ∷ 44 ∷ (fields ++ line_feed))
     by_write true e =
-        let found = sound_write fields f (subst (λ t. cond t (write_in fields) run_after ≡ Some f) e read) in
+        let found = sound_write fields f (subst (λ t. cond t (as_write fields) run_after ≡ Some f) e read) in
         (found.0, found.1 ∙ ap (λ x. x ∷ 44 ∷ (fields ++ line_feed)) (sym (eqb-true letter 119 e)))
-    by_write false e = by_run (letter == 103) refl (subst (λ t. cond t (write_in fields) run_after ≡ Some f) e read)
+    by_write false e = by_run (letter == 103) refl (subst (λ t. cond t (as_write fields) run_after ≡ Some f) e read)
 
 complete : (f : Form) → well_formed f ≡ true → form_of (line_text f) ≡ Some f
 complete (write address value) good =

@@ -1,2 +1,2 @@
-pub mod FirstLine
+mod FirstLine
 pub mod Forms

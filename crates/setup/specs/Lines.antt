@@ -45,23 +45,25 @@ pub record Exact (line : List ℕ) (r : Option Form) : Type 0 where
 abbrev pub form_if : Bool → Form → Option Form
 form_if holds f = cond holds (Some f) None
 
-abbrev pub write_in : List ℕ → Option Form
-write_in fields = cond (length fields == 17 && slice_index fields 8 == 44) (form_if (is_hex_field (take 8 fields) && is_hex_field (drop 9 fields)) (write (take 8 fields) (drop 9 fields))) None
+-- eight bytes, a comma (44) and eight bytes, the eights in digits
+abbrev pub as_write : List ℕ → Option Form
+as_write fields = cond (length fields == 17 && slice_index fields 8 == 44) (form_if (is_hex_field (take 8 fields) && is_hex_field (drop 9 fields)) (write (take 8 fields) (drop 9 fields))) None
 
-abbrev pub run_in : List ℕ → Option Form
-run_in fields = form_if (is_decimal_field fields) (run fields)
+abbrev pub as_run : List ℕ → Option Form
+as_run fields = form_if (is_decimal_field fields) (run fields)
 
-abbrev pub register_in : List ℕ → Option Form
-register_in fields = form_if (is_decimal_field fields) (register fields)
+abbrev pub as_register : List ℕ → Option Form
+as_register fields = form_if (is_decimal_field fields) (register fields)
 
+-- by the letter: 'w' is 119, 'g' 103, 'r' 114
 abbrev pub form_by : ℕ → List ℕ → Option Form
 form_by letter fields =
-    cond (letter == 119) (write_in fields)
-    (cond (letter == 103) (run_in fields)
-    (cond (letter == 114) (register_in fields)
+    cond (letter == 119) (as_write fields)
+    (cond (letter == 103) (as_run fields)
+    (cond (letter == 114) (as_register fields)
     None))
 
--- a letter, a comma, and at the end an LF
+-- any byte, a comma (44), and an LF (10) at the end
 abbrev pub is_framed : List ℕ → Bool
 is_framed line = nat_le 3 (length line) && (slice_index line 1 == 44 && slice_index line (length line - 1) == 10)
 

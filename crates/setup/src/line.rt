@@ -1,11 +1,11 @@
-// A line of a set-up, read.
+// A set-up's line by its form, with its fields.
 ghost use Rattle.std.specs.Prelude.{◌≡◌};
-ghost use Rattle.setup.specs.Lines.{form_of, form_in, write_in, run_in, register_in, Exact};
+ghost use Rattle.setup.specs.Lines.{form_of, form_in, as_write, as_run, as_register, Exact};
 
 use numerals::{DecimalField, HexField};
 
-// The fields are parts of the text.
-#[derive(Clone, Copy)]
+// Each field is a part of the text itself, not a copy.
+#[derive(Clone, Copy, PartialEq, Eq, Debug)]
 pub enum SetupLine<'a> {
     Write {
         address: HexField<'a>,
@@ -21,7 +21,7 @@ pub enum SetupLine<'a> {
 
 // An address, a comma and a word.
 fn read_write(fields: &[u8]) -> Option<SetupLine<'_>>
-    ensures { form_in result ≡ write_in fields.now }
+    ensures { form_in result ≡ as_write fields.now }
 {
     if fields.len() != 17 || fields[8] != b',' {
         return None;
@@ -33,14 +33,14 @@ fn read_write(fields: &[u8]) -> Option<SetupLine<'_>>
 }
 
 fn read_run(count: &[u8]) -> Option<SetupLine<'_>>
-    ensures { form_in result ≡ run_in count.now }
+    ensures { form_in result ≡ as_run count.now }
 {
     let count = DecimalField::new(count)?;
     Some(SetupLine::Run { count })
 }
 
 fn read_register(number: &[u8]) -> Option<SetupLine<'_>>
-    ensures { form_in result ≡ register_in number.now }
+    ensures { form_in result ≡ as_register number.now }
 {
     let number = DecimalField::new(number)?;
     Some(SetupLine::Register { number })
