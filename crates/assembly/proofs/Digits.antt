@@ -1,46 +1,25 @@
 -- Hexadecimal digits as text.
-use Rattle.std.proofs.Common.{◌≡◌, ℕ, suc, ◌-◌, ◌/◌, ◌%◌, ◌^◌, ◌<◌, ◌≤◌, true, false, List, [], ◌∷◌, ap, ◌∙◌, ⊎_elim, arith, eqb, ne_eqb}
-use Rattle.std.specs.Fmt.{digits, digits_onto, padded_integral, char_count, format_spec}
+use Rattle.std.proofs.Common.{◌≡◌, ℕ, suc, ◌-◌, ◌/◌, ◌%◌, ◌^◌, ◌<◌, ◌≤◌, true, false, List, [], ◌∷◌, ⊎_elim, arith, eqb, ne_eqb}
+use Rattle.std.specs.Fmt.{digit_glyph, digits, digits_onto, padded_integral, char_count, format_spec}
 use Rattle.std.proofs.lemmas.Fmt.{hex_one_digit, hex_two_digits}
 use Rattle.std.proofs.lemmas.Bool.{cases_lt}
-use Rattle.assembly.specs.Lines.{hex_digit}
 
 -- the digits of a number, from the last one on, before those written so far
-last_digit : (k n : ℕ) (acc : List ℕ) → n < 16 → digits_onto (suc k) 16 true n acc ≡ hex_digit n ∷ acc
+last_digit : (k n : ℕ) (acc : List ℕ) → n < 16 → digits_onto (suc k) 16 true n acc ≡ digit_glyph true n ∷ acc
 last_digit k n acc small =
     let zero : n / 16 ≡ 0 = omega arith in
     let same : n % 16 ≡ n = omega arith in
     rw (zero, same)
 
-next_digit : (k n : ℕ) (acc : List ℕ) → 16 ≤ n → digits_onto (suc k) 16 true n acc ≡ digits_onto k 16 true (n / 16) (hex_digit (n % 16) ∷ acc)
+next_digit : (k n : ℕ) (acc : List ℕ) → 16 ≤ n → digits_onto (suc k) 16 true n acc ≡ digits_onto k 16 true (n / 16) (digit_glyph true (n % 16) ∷ acc)
 next_digit k n acc large =
     let some : eqb (n / 16) 0 ≡ false = ne_eqb _ 0 (λ e. omega arith) in
     rw some
 
-three_digits : (n : ℕ) → 256 ≤ n → n < 4096 → digits 16 true n ≡ hex_digit (n / 256) ∷ hex_digit (n / 16 % 16) ∷ hex_digit (n % 16) ∷ []
-unfolding digits
-three_digits n large small =
-    let top : n / 16 / 16 ≡ n / 256 = omega arith in
-    next_digit 63 n [] (omega arith)
-    ∙ next_digit 62 (n / 16) _ (omega arith)
-    ∙ last_digit 61 (n / 16 / 16) _ (omega arith)
-    ∙ ap (λ d. hex_digit d ∷ hex_digit (n / 16 % 16) ∷ hex_digit (n % 16) ∷ []) top
-
-four_digits : (n : ℕ) → 4096 ≤ n → n < 2 ^ 16 → digits 16 true n ≡ hex_digit (n / 4096) ∷ hex_digit (n / 256 % 16) ∷ hex_digit (n / 16 % 16) ∷ hex_digit (n % 16) ∷ []
-unfolding digits
-four_digits n large small =
-    let next : n / 16 / 16 ≡ n / 256 = omega arith in
-    let top : n / 16 / 16 / 16 ≡ n / 4096 = omega arith in
-    next_digit 63 n [] (omega arith)
-    ∙ next_digit 62 (n / 16) _ (omega arith)
-    ∙ next_digit 61 (n / 16 / 16) _ (omega arith)
-    ∙ last_digit 60 (n / 16 / 16 / 16) _ (omega arith)
-    ∙ (λ i. hex_digit (top i) ∷ hex_digit (next i % 16) ∷ hex_digit (n / 16 % 16) ∷ hex_digit (n % 16) ∷ [])
-
--- what `{:04X}` writes of the number, and its four digits
-abbrev Written : ℕ → Type 0
+-- what `{:04X}` writes of the number is its four digits
+abbrev pub Written : ℕ → Type 0
 Written n = padded_integral (format_spec 32 0 4 4 (2 ^ 64 - 1)) false [] (digits 16 true n)
-    ≡ hex_digit (n / 4096 % 16) ∷ hex_digit (n / 256 % 16) ∷ hex_digit (n / 16 % 16) ∷ hex_digit (n % 16) ∷ []
+    ≡ digit_glyph true (n / 4096 % 16) ∷ digit_glyph true (n / 256 % 16) ∷ digit_glyph true (n / 16 % 16) ∷ digit_glyph true (n % 16) ∷ []
 
 of_one : (n : ℕ) → n < 16 → Written n
 unfolding padded_integral char_count
@@ -60,21 +39,22 @@ of_two n large small =
     rw (hex_two_digits true n large small, a, b, c)
 
 of_three : (n : ℕ) → 256 ≤ n → n < 4096 → Written n
-unfolding padded_integral char_count
+unfolding padded_integral char_count digits
 of_three n large small =
     let a : n / 4096 % 16 ≡ 0 = omega arith in
     let b : n / 256 % 16 ≡ n / 256 = omega arith in
-    rw (three_digits n large small, a, b)
+    let top : n / 16 / 16 ≡ n / 256 = omega arith in
+    rw (next_digit 63 n [] (omega arith), next_digit 62 (n / 16) _ (omega arith), last_digit 61 (n / 16 / 16) _ (omega arith), top, a, b)
 
 of_four : (n : ℕ) → 4096 ≤ n → n < 2 ^ 16 → Written n
-unfolding padded_integral char_count
+unfolding padded_integral char_count digits
 of_four n large small =
     let a : n / 4096 % 16 ≡ n / 4096 = omega arith in
-    rw (four_digits n large small, a)
+    let next : n / 16 / 16 ≡ n / 256 = omega arith in
+    let top : n / 256 / 16 ≡ n / 4096 = omega arith in
+    rw (next_digit 63 n [] (omega arith), next_digit 62 (n / 16) _ (omega arith), next, next_digit 61 (n / 256) _ (omega arith), top, last_digit 60 (n / 4096) _ (omega arith), a)
 
-pub hex_four : (n : ℕ) → n < 2 ^ 16
-    → padded_integral (format_spec 32 0 4 4 (2 ^ 64 - 1)) false [] (digits 16 true n)
-    ≡ hex_digit (n / 4096 % 16) ∷ hex_digit (n / 256 % 16) ∷ hex_digit (n / 16 % 16) ∷ hex_digit (n % 16) ∷ []
+pub hex_four : (n : ℕ) → n < 2 ^ 16 → Written n
 hex_four n small =
     ⊎_elim (of_one n) (λ two. ⊎_elim (of_two n two) (λ three. ⊎_elim (of_three n three) (λ four. of_four n four small)
     (cases_lt n 4096)) (cases_lt n 256)) (cases_lt n 16)

@@ -1,7 +1,7 @@
--- Instructions in the manual's assembly form: the mnemonic, then the operands, parted by commas. Offsets of jumps, branches,
+-- Instructions in the manual's assembly form: the mnemonic, then the operands, with a comma and a blank between two. Offsets of jumps, branches,
 -- LL.W and SC.W are in bytes.
-use Rattle.std.specs.Prelude.{ℕ, ◌+◌, ◌/◌, ◌%◌, cond, List, [], ◌∷◌, ◌++◌, codes, decimal, nat_lt}
-use Rattle.std.specs.Fmt.{signed_decimal}
+use Rattle.std.specs.Prelude.{ℕ, ◌/◌, ◌%◌, true, List, [], ◌∷◌, ◌++◌, codes, decimal}
+use Rattle.std.specs.Fmt.{digit_glyph, signed_decimal}
 use Rattle.word.specs.Word.{signed_bits, signed_bits_times4}
 use Rattle.isa.specs.declared.field.Field.{Field}
 use Rattle.isa.specs.declared.instruction.ImmediateOp.{ImmediateOp}
@@ -14,7 +14,7 @@ use Rattle.assembly.specs.declared.line.Operands.{Operands}
 use Rattle.assembly.specs.declared.line.Operands.TheVariants.{None, One, Two, Three}
 use Rattle.assembly.specs.Names.{counter_name, register_name, shift_name, immediate_name, tlb_name, upper_name, load_name, store_name, branch_name}
 
--- a signed field, and one that counts words, in bytes
+-- a signed field; and one that counts words, as a number of bytes
 abbrev pub signed_field : (k : ℕ) → Field k → Operand
 signed_field k f = Signed (signed_bits k f.value)
 
@@ -60,16 +60,12 @@ line_of (B offs26) = (codes "b", One (words_field 26 offs26))
 line_of (Bl offs26) = (codes "bl", One (words_field 26 offs26))
 line_of (Branch op rj rd offs16) = (branch_name op, Three (Gpr rj) (Gpr rd) (words_field 16 offs16))
 
--- a hexadecimal digit
-abbrev pub hex_digit : ℕ → ℕ
-hex_digit d = cond (nat_lt d 10) (48 + d) (55 + d)
-
--- as text
+-- how an operand is written
 abbrev pub operand_text : Operand → List ℕ
 operand_text (Gpr r) = codes "r" ++ decimal r.index
 operand_text (Signed z) = signed_decimal z
 operand_text (Unsigned n) = decimal n
-operand_text (Csr n) = codes "0x" ++ (hex_digit (n.value / 4096 % 16) ∷ hex_digit (n.value / 256 % 16) ∷ hex_digit (n.value / 16 % 16) ∷ hex_digit (n.value % 16) ∷ [])
+operand_text (Csr n) = codes "0x" ++ (digit_glyph true (n.value / 4096 % 16) ∷ digit_glyph true (n.value / 256 % 16) ∷ digit_glyph true (n.value / 16 % 16) ∷ digit_glyph true (n.value % 16) ∷ [])
 
 abbrev pub operands_text : Operands → List ℕ
 operands_text None = []

@@ -3,7 +3,7 @@ ghost use Rattle.std.specs.Prelude.{◌≡◌};
 ghost use Rattle.tintdis.specs.Digits.{word_of};
 
 // The word that eight digits write.
-#[tactic(auto, using(crate::proofs::Reading::room))]
+#[tactic(auto, using(crate::proofs::Reading::fewer_digits))]
 pub(crate) fn word_of(line: &[u8]) -> Option<u32>
     ensures { result ≡ word_of line.now }
 {

@@ -13,7 +13,7 @@ fn main(rt: HostRuntime) -> anyhow::Result<()> {
 
 fn run(rt: &HostRuntime) -> anyhow::Result<()> {
     let lines = BufReader::new(rt.alloc(), rt.stdin())?.split(rt.alloc(), b'\n');
-    // No input has 2^64 lines, so the numbers outlast it.
+    // No input has so many lines that the numbers from 1 on run out first.
     for (line, number) in lines.zip(1u64..) {
         show(rt, number, line?.as_slice())?;
     }
