@@ -17,9 +17,9 @@ abbrev pub by_si14 : UserState → Reg → Field 14 → VirtAddr
 by_si14 u rj si14 = virtual (word_sum (gr u.general rj) (sign_extend_times4 14 si14.value))
 
 -- GR[rj] + SignExtend({offs16, 2'b0}, 32)
-abbrev pub by_register : UserState → Reg → Field 16 → VirtAddr
-by_register u rj offs16 = virtual (word_sum (gr u.general rj) (sign_extend_times4 16 offs16.value))
+abbrev pub by_offs16 : UserState → Reg → Field 16 → VirtAddr
+by_offs16 u rj offs16 = virtual (word_sum (gr u.general rj) (sign_extend_times4 16 offs16.value))
 
 -- PC + SignExtend({offs, 2'b0}, 32)
-abbrev pub by_offset : (n : ℕ) → UserState → Field n → VirtAddr
-by_offset n u offs = virtual (word_sum u.pc.0 (sign_extend_times4 n offs.value))
+abbrev pub from_pc : (n : ℕ) → UserState → Field n → VirtAddr
+from_pc n u offs = virtual (word_sum u.pc.0 (sign_extend_times4 n offs.value))

@@ -18,7 +18,7 @@ use Rattle.actions.specs.declared.action.PrivilegedAction.TheVariants as privile
 use Rattle.actions.specs.declared.user.UserState.{UserState}
 use Rattle.actions.specs.Registers.{gr, return_register}
 use Rattle.actions.specs.User.{next_pc}
-use Rattle.actions.specs.Addresses.{by_si12, by_si14, by_register, by_offset}
+use Rattle.actions.specs.Addresses.{by_si12, by_si14, by_offs16, from_pc}
 
 -- GR[rd] gets a value, and the next instruction follows
 abbrev pub result_action : UserState → Reg → ℕ → Action
@@ -36,7 +36,7 @@ counter_half Low counter = counter % 2 ^ 32
 counter_half High counter = counter / 2 ^ 32
 
 abbrev pub branch : UserState → BranchOp → Reg → Reg → Field 16 → Action
-branch u op rj rd offs16 = cond (taken op (gr u.general rj) (gr u.general rd)) (action.Go (by_offset 16 u offs16)) (nop u)
+branch u op rj rd offs16 = cond (taken op (gr u.general rj) (gr u.general rd)) (action.Go (from_pc 16 u offs16)) (nop u)
 
 abbrev pub csrwr : UserState → Reg → ℕ → Action
 csrwr u rd csr = action.Privileged (privileged.Csrwr rd csr (gr u.general rd))
@@ -75,9 +75,9 @@ plan u t (Store op rd rj si12) = action.Store op (by_si12 u rj si12) (gr u.gener
 plan u t (Preld hint rj si12) = nop u
 plan u t (Dbar hint) = nop u
 plan u t (Ibar hint) = nop u
-plan u t (Jirl rd rj offs16) = jump_and_link u rd (by_register u rj offs16)
-plan u t (B offs26) = action.Go (by_offset 26 u offs26)
-plan u t (Bl offs26) = jump_and_link u return_register (by_offset 26 u offs26)
+plan u t (Jirl rd rj offs16) = jump_and_link u rd (by_offs16 u rj offs16)
+plan u t (B offs26) = action.Go (from_pc 26 u offs26)
+plan u t (Bl offs26) = jump_and_link u return_register (from_pc 26 u offs26)
 plan u t (Branch op rj rd offs16) = branch u op rj rd offs16
 
 abbrev pub is_privileged : Action → Bool

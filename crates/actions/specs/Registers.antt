@@ -3,8 +3,8 @@ use Rattle.std.specs.Prelude.{ℕ, cond, ◌==◌, List, replicate, slice_index_
 use Rattle.isa.specs.declared.register.Reg.{Reg}
 use Rattle.isa.specs.Fields.{reg_of}
 
-abbrev pub reset_registers : List ℕ
-reset_registers = replicate 32 0
+abbrev pub reset_general : List ℕ
+reset_general = replicate 32 0
 
 -- GR[r]
 abbrev pub gr : List ℕ → Reg → ℕ

@@ -4,7 +4,7 @@ use isa::{LoadOp, Reg, StoreOp, TlbOp};
 use pages::VirtAddr;
 
 // An address in an action is the program's own: only the step translates it and asks the bus. An action that is not privileged
-// alters the general registers, the PC, memory and the link alone, unless it is an exception.
+// alters the general registers, the PC, memory and the link alone, unless it comes to an exception.
 #[derive(Clone, Copy, PartialEq, Eq, Debug)]
 pub enum Action {
     // GR[rd] gets the value, and the program goes on at `next`.
@@ -67,8 +67,8 @@ pub enum PrivilegedAction {
     // With the values of its two registers.
     Invtlb {
         op: u32,
-        rj: u32,
-        rk: u32,
+        asid_word: u32,
+        address: u32,
     },
     Ertn,
     Idle,

@@ -1,6 +1,6 @@
 // Addresses of accesses and of branches.
 ghost use Rattle.std.specs.Prelude.{◌≡◌};
-ghost use Rattle.actions.specs.Addresses.{by_si12, by_si14, by_offset, by_register};
+ghost use Rattle.actions.specs.Addresses.{by_si12, by_si14, from_pc, by_offs16};
 
 use crate::user::UserState;
 use isa::{Field, Reg};
@@ -20,14 +20,14 @@ impl UserState {
         VirtAddr(add(self.general.read(rj), offset::<14>(si14.value())))
     }
 
-    pub(crate) fn by_register(&self, rj: Reg, offs16: Field<16>) -> VirtAddr
-        ensures { result ≡ by_register self.now rj offs16 }
+    pub(crate) fn by_offs16(&self, rj: Reg, offs16: Field<16>) -> VirtAddr
+        ensures { result ≡ by_offs16 self.now rj offs16 }
     {
         VirtAddr(add(self.general.read(rj), offset::<16>(offs16.value())))
     }
 
-    pub(crate) fn by_offset<const N: u32>(&self, offs: Field<N>) -> VirtAddr
-        ensures { result ≡ by_offset N self.now offs.entry }
+    pub(crate) fn from_pc<const N: u32>(&self, offs: Field<N>) -> VirtAddr
+        ensures { result ≡ from_pc N self.now offs.entry }
     {
         VirtAddr(add(self.pc.0, offset::<N>(offs.value())))
     }

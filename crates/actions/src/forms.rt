@@ -4,7 +4,7 @@ ghost use Rattle.operations.specs.Operations.{register_result, shift_result, imm
 ghost use Rattle.actions.specs.declared.action.Action.TheVariants as action;
 ghost use Rattle.actions.specs.declared.action.PrivilegedAction.TheVariants as privileged;
 ghost use Rattle.actions.specs.Registers.{gr};
-ghost use Rattle.actions.specs.Addresses.{by_si12, by_si14, by_offset};
+ghost use Rattle.actions.specs.Addresses.{by_si12, by_si14, from_pc};
 ghost use Rattle.actions.specs.Plan.{result_action, jump_and_link, nop, counter_half, branch, csrwr, csrxchg, cacop, invtlb};
 
 use crate::action::{Action, PrivilegedAction};
@@ -33,7 +33,7 @@ pub(crate) fn csrrd(rd: Reg, csr: u32) -> Action
 }
 
 impl UserState {
-    pub(crate) fn result(&self, rd: Reg, value: u32) -> Action
+    pub(crate) fn result_action(&self, rd: Reg, value: u32) -> Action
         ensures { result ≡ result_action self.now rd value }
     {
         Action::Write {
@@ -63,10 +63,10 @@ impl UserState {
     }
 
     pub(crate) fn jump<const N: u32>(&self, offs: Field<N>) -> Action
-        ensures { result ≡ action.Go (by_offset N self.now offs.entry) }
+        ensures { result ≡ action.Go (from_pc N self.now offs.entry) }
     {
         Action::Go {
-            next: self.by_offset(offs),
+            next: self.from_pc(offs),
         }
     }
 
@@ -84,25 +84,25 @@ impl UserState {
         ensures { result ≡ result_action self.now rd (register_result op (gr self.now.general rj) (gr self.now.general rk)) }
     {
         let value = register_result(op, self.general.read(rj), self.general.read(rk));
-        self.result(rd, value)
+        self.result_action(rd, value)
     }
 
     pub(crate) fn shift(&self, op: ShiftOp, rd: Reg, rj: Reg, ui5: Field<5>) -> Action
         ensures { result ≡ result_action self.now rd (shift_result op (gr self.now.general rj) ui5) }
     {
-        self.result(rd, shift_result(op, self.general.read(rj), ui5))
+        self.result_action(rd, shift_result(op, self.general.read(rj), ui5))
     }
 
     pub(crate) fn immediate(&self, op: ImmediateOp, rd: Reg, rj: Reg, imm12: Field<12>) -> Action
         ensures { result ≡ result_action self.now rd (immediate_result op (gr self.now.general rj) imm12) }
     {
-        self.result(rd, immediate_result(op, self.general.read(rj), imm12))
+        self.result_action(rd, immediate_result(op, self.general.read(rj), imm12))
     }
 
     pub(crate) fn upper(&self, op: UpperOp, rd: Reg, si20: Field<20>) -> Action
         ensures { result ≡ result_action self.now rd (upper_result op self.now.pc.0 si20) }
     {
-        self.result(rd, upper_result(op, self.pc.0, si20))
+        self.result_action(rd, upper_result(op, self.pc.0, si20))
     }
 
     pub(crate) fn load(&self, op: LoadOp, rd: Reg, rj: Reg, si12: Field<12>) -> Action
@@ -158,8 +158,8 @@ impl UserState {
     {
         Action::Privileged(PrivilegedAction::Invtlb {
             op,
-            rj: self.general.read(rj),
-            rk: self.general.read(rk),
+            asid_word: self.general.read(rj),
+            address: self.general.read(rk),
         })
     }
 

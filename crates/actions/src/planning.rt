@@ -17,8 +17,8 @@ impl UserState {
         ensures privilege { is_privileged result ≡ privileged instruction }
     {
         match instruction {
-            In::Rdcntid { rj } => self.result(rj.reg(), timer.tid),
-            In::Rdcntv { half, rd } => self.result(rd, counter_half(half, timer)),
+            In::Rdcntid { rj } => self.result_action(rj.reg(), timer.tid),
+            In::Rdcntv { half, rd } => self.result_action(rd, counter_half(half, timer)),
             In::Register { op, rd, rj, rk } => self.register(op, rd, rj, rk),
             In::Break { .. } => Action::Raise(Exception::Brk),
             In::Syscall { .. } => Action::Raise(Exception::Sys),
@@ -38,9 +38,9 @@ impl UserState {
             In::Load { op, rd, rj, si12 } => self.load(op, rd, rj, si12),
             In::Store { op, rd, rj, si12 } => self.store(op, rd, rj, si12),
             In::Preld { .. } | In::Dbar { .. } | In::Ibar { .. } => self.nop(),
-            In::Jirl { rd, rj, offs16 } => self.jump_and_link(rd, self.by_register(rj, offs16)),
+            In::Jirl { rd, rj, offs16 } => self.jump_and_link(rd, self.by_offs16(rj, offs16)),
             In::B { offs26 } => self.jump(offs26),
-            In::Bl { offs26 } => self.jump_and_link(return_register(), self.by_offset(offs26)),
+            In::Bl { offs26 } => self.jump_and_link(return_register(), self.from_pc(offs26)),
             In::Branch { op, rj, rd, offs16 } => self.branch(op, rj, rd, offs16),
         }
     }

@@ -1,6 +1,6 @@
 // The general registers.
 ghost use Rattle.std.specs.Prelude.{◌≡◌};
-ghost use Rattle.actions.specs.Registers.{reset_registers, gr, with_gr, return_register};
+ghost use Rattle.actions.specs.Registers.{reset_general, gr, with_gr, return_register};
 
 use isa::Reg;
 use std::marker::Model;
@@ -33,7 +33,7 @@ pub(crate) fn return_register() -> Reg
 impl GeneralRegisters {
     // As reset leaves them.
     pub fn new() -> GeneralRegisters
-        ensures { result ≡ reset_registers }
+        ensures { result ≡ reset_general }
     {
         GeneralRegisters { values: [0; 32] }
     }

@@ -1,4 +1,4 @@
-// What every program sees of the core: the PC and the general registers.
+// What every program reads and writes of the core: the PC and the general registers.
 ghost use Rattle.std.specs.Prelude.{◌≡◌};
 ghost use Rattle.actions.specs.User.{reset_user, next_pc, written};
 

@@ -7,7 +7,7 @@ use Rattle.machine.specs.Outcomes.{Outcome, outcome}
 use Rattle.driver.specs.declared.call.Call.{Call}
 use Rattle.driver.specs.declared.call.Call.TheVariants.{Reset}
 use Rattle.driver.specs.declared.call.Answer.{Answer}
-use Rattle.driver.specs.Calls.{answer_to, then, drive_of, CallFetchesNothing, AllFetchNothing}
+use Rattle.driver.specs.Calls.{perform_of, then, drive_of, CallFetchesNothing, AllFetchNothing}
 
 -- answers given before those that follow
 abbrev behind : List Answer → Outcome (List Answer) → Outcome (List Answer)
@@ -29,7 +29,7 @@ module _ {B L : Type 0} (byte : B → Memory) (layout : B → L) (calls : List C
 
   pub one_made : (k : ℕ) (answers more : List Answer) (core next : State) (bus after : B) (answer : Answer) → k < length calls
       → SoFar byte layout calls start first k answers core bus
-      → outcome answer next (byte after) ≡ answer_to core (byte bus) (get_or calls k Reset)
+      → outcome answer next (byte after) ≡ perform_of core (byte bus) (get_or calls k Reset)
       → layout after ≡ layout bus
       → (CallFetchesNothing (get_or calls k Reset) core (byte bus) → after ≡ bus)
       → more ≡ answers ++ (answer ∷ [])

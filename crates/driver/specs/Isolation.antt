@@ -2,6 +2,7 @@
 use Rattle.std.specs.Prelude.{◌≡◌, ℕ, ◌≤◌, Bool, List, ◌∷◌, ◌++◌, length, take}
 use Rattle.bus.specs.Memory.{Memory}
 use Rattle.machine.specs.declared.state.State.{State}
+use Rattle.machine.specs.Calls.{most_steps}
 use Rattle.machine.specs.Isolation.{Withheld, Agree, Alike, Confined}
 use Rattle.machine.specs.Laws.{RunPerforms}
 use Rattle.machine.specs.Outcomes.{Outcome}
@@ -9,16 +10,16 @@ use Rattle.machine.specs.Step.{step}
 use Rattle.driver.specs.declared.call.Call.{Call}
 use Rattle.driver.specs.declared.call.Call.TheVariants.{Step, Run}
 use Rattle.driver.specs.declared.call.Answer.{Answer}
-use Rattle.driver.specs.Calls.{answer_to, drive_of}
+use Rattle.driver.specs.Calls.{perform_of, drive_of}
 
 -- these calls, begun from this core and memory, make the machine begin a step in that core, with those levels and that memory: alone or
 -- within a run, refused or not
 pub data Performs : List Call → State → Memory → State → ℕ → Memory → Type 0 where
   by_step : {levels : ℕ} {cs : List Call} {s : State} {m : Memory} → Performs (Step levels ∷ cs) s m s levels m
-  by_run : {count levels : ℕ} {cs : List Call} {s t : State} {m k : Memory} → count ≤ 65536 → RunPerforms levels count s m t k
+  by_run : {count levels : ℕ} {cs : List Call} {s t : State} {m k : Memory} → count ≤ most_steps → RunPerforms count levels s m t k
       → Performs (Run count levels ∷ cs) s m t levels k
   by_later_call : {levels : ℕ} {c : Call} {cs : List Call} {s t : State} {m k : Memory}
-      → Performs cs (answer_to s m c).state (answer_to s m c).memory t levels k → Performs (c ∷ cs) s m t levels k
+      → Performs cs (perform_of s m c).state (perform_of s m c).memory t levels k → Performs (c ∷ cs) s m t levels k
 
 -- bytes are withheld from each step that the calls perform
 abbrev pub AllWithheld : (ℕ → Bool) → List Call → State → Memory → Type 0

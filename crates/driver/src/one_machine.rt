@@ -1,7 +1,7 @@
 // One machine, a core on any bus, given calls.
 ghost use Rattle.std.specs.Prelude.{◌≡◌, IfOk, IfErr};
 ghost use Rattle.machine.specs.Outcomes.{outcome};
-ghost use Rattle.driver.specs.Calls.{answer_to, drive_of, CallFetchesNothing, AllFetchNothing};
+ghost use Rattle.driver.specs.Calls.{perform_of, drive_of, CallFetchesNothing, AllFetchNothing};
 ghost use Rattle.driver.specs.Isolation.{AllConfined, DriveIsolated};
 
 use crate::call::{Answer, Call};
@@ -11,7 +11,7 @@ use std::alloc::{AllocError, Global};
 
 // Makes one call.
 pub fn perform<B: Bus>(core: &mut RunningCore, bus: &mut B, call: Call) -> Answer
-    ensures value { outcome result core.new (B.byte bus.new) ≡ answer_to core.old (B.byte bus.old) call }
+    ensures value { outcome result core.new (B.byte bus.new) ≡ perform_of core.old (B.byte bus.old) call }
     ensures kept { B.layout bus.new ≡ B.layout bus.old }
 
     // A call of which no step fetches leaves the bus alone, with all that it keeps for itself.
@@ -32,6 +32,7 @@ pub fn perform<B: Bus>(core: &mut RunningCore, bus: &mut B, call: Call) -> Answe
 }
 
 // Makes the calls in their order. Where there is no memory for the answers, none is made.
+#[tactic(auto, using(crate::proofs::Driving::all_confined))]
 pub fn drive<B: Bus>(
     alloc: Global,
     core: &mut RunningCore,

@@ -13,6 +13,7 @@ use std::alloc::{AllocError, Global};
 
 // Resets both cores and gives both machines the calls, each to the one and then to the other. Where there is no memory for the
 // answers, nothing is done.
+#[tactic(auto, using(crate::proofs::Driving::all_confined))]
 pub fn lockstep<A: Bus, B: Bus>(
     alloc: Global,
     left: &mut RunningCore,

@@ -1,10 +1,9 @@
 -- The counter rises by one each accepted step.
-use Rattle.std.proofs.Common.{◌≡◌, ℕ, zero, suc, ◌+◌, ◌%◌, ◌^◌, Bool, true, false, Some, None, Option, Ok, Err, refl, sym, ap, ◌∙◌, arith}
+use Rattle.std.proofs.Common.{◌≡◌, ℕ, zero, suc, ◌+◌, ◌%◌, ◌^◌, Some, None, Option, Ok, Err, refl, sym, ap, ◌∙◌, arith}
 use Rattle.bus.specs.Memory.{Memory}
 use Rattle.isa.specs.declared.instruction.TlbOp.TheVariants.{Tlbsrch, Tlbrd, Tlbwr, Tlbfill}
 use Rattle.tlb.specs.declared.invalidation.Invalidation.{Invalidation}
 use Rattle.tlb.specs.Invalidating.{numbered}
-use Rattle.csr.specs.Interrupts.{due}
 use Rattle.control.specs.declared.number.Csr.{Csr}
 use Rattle.control.specs.declared.number.Csr.TheVariants.{Crmd, Prmd, Euen, Ecfg, Estat, Era, Badv, Eentry, Tlbidx, Tlbehi, Tlbelo0, Tlbelo1, Asid, Pgdl, Pgdh, Pgd, Cpuid, Save0, Save1, Save2, Save3, Tid, Tcfg, Tval, Ticlr, Llbctl, Tlbrentry, Ctag, Dmw0, Dmw1}
 use Rattle.control.specs.declared.registers.Registers.{Registers}
@@ -18,9 +17,8 @@ use Rattle.machine.specs.declared.answers.RunReport.{RunReport}
 use Rattle.machine.specs.declared.state.State.{State}
 use Rattle.machine.specs.Outcomes.{Outcome, StepAnswer}
 use Rattle.machine.specs.Supervision.{invalidate, supervise}
-use Rattle.machine.specs.Execution.{execute}
-use Rattle.machine.specs.Step.{at_levels, keeps_waiting, awake, by_waiting, acted, ended, step, ran_on, run_of}
-use Rattle.machine.proofs.Coming.{Came, raises, goes, supervises, writes, unread, unwritten, execute_came}
+use Rattle.machine.specs.Step.{acted, ended, step, ran_on, run_of}
+use Rattle.machine.proofs.Ways.{acting, Way, raises, goes, supervises, writes, unread, unwritten, each_way}
 
 abbrev pub counter : State → ℕ
 counter s = s.registers.timer.counter
@@ -74,25 +72,22 @@ supervise_counter s (privileged.Tlb Tlbsrch) = refl
 supervise_counter s (privileged.Tlb Tlbrd) = refl
 supervise_counter s (privileged.Tlb Tlbwr) = refl
 supervise_counter s (privileged.Tlb Tlbfill) = refl
-supervise_counter s (privileged.Invtlb op rj rk) = invalidate_counter s (numbered op (rj % 2 ^ 10) (virtual rk))
+supervise_counter s (privileged.Invtlb op asid_word address) = invalidate_counter s (numbered op (asid_word % 2 ^ 10) (virtual address))
 supervise_counter s privileged.Ertn = refl
 supervise_counter s privileged.Idle = refl
 supervise_counter s privileged.Cacop = refl
 
-came_counter : (s : State) (m : Memory) (o : Outcome StepAnswer) → Came s m o → counter o.state ≡ counter s
-came_counter s m o (raises e) = refl
-came_counter s m o (goes u link) = refl
-came_counter s m o (supervises action level) = supervise_counter s action
-came_counter s m o (writes u link at place w v n is_wide to put_is) = refl
-came_counter s m o (unread k at place w e is_wide to got) = refl
-came_counter s m o (unwritten at place w v e is_wide to put_is) = refl
-
-waiting_counter : (waits : Bool) (s : State) (m : Memory) → counter (by_waiting waits s m).state ≡ counter s
-waiting_counter true s m = refl
-waiting_counter false s m = came_counter (awake s) m (execute (awake s) m) (execute_came (awake s) m)
+way_counter : (s : State) (levels : ℕ) (m : Memory) (o : Outcome StepAnswer) → Way s levels m o → counter o.state ≡ counter s
+way_counter s levels m o (raises e) = refl
+way_counter s levels m o (goes u link) = refl
+way_counter s levels m o (supervises action level) = supervise_counter (acting s levels) action
+way_counter s levels m o (writes u link place w v n call put_is) = refl
+way_counter s levels m o (unread k place w e call got) = refl
+way_counter s levels m o (unwritten place w v e call put_is) = refl
 
 acted_counter : (s : State) (levels : ℕ) (m : Memory) → counter (acted s levels m).state ≡ counter s
-acted_counter s levels m = waiting_counter (keeps_waiting s.activity (due (at_levels s levels).registers.interrupts)) (at_levels s levels) m
+acted_counter s levels m =
+    each_way s levels m (λ o. counter o.state ≡ counter s) refl (λ o way. way_counter s levels m o way)
 
 -- how many steps an answer is worth
 abbrev worth : StepAnswer → ℕ

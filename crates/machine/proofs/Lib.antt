@@ -1,10 +1,11 @@
-pub mod Coming
-pub mod Steps
+pub mod Ways
+pub mod StepParts
 pub mod Runs
 pub mod Bytes
 pub mod Reaching
 pub mod Confining
 pub mod Alikes
-pub mod Lawful
+pub mod StepLaws
 pub mod Counting
 pub mod RunLaws
+pub mod FirstProgram

@@ -14,30 +14,29 @@ use Rattle.translation.specs.Translation.{Place, place, translation}
 use Rattle.translation.specs.Laws.{LoadsFrom}
 use Rattle.translation.proofs.OnePage.{stays_in_page}
 use Rattle.translation.proofs.Lying.{loads_from}
-use Rattle.actions.specs.declared.action.Action.{Action}
 use Rattle.machine.specs.declared.state.State.{State}
 use Rattle.machine.specs.Access.{translated, if_aligned, locate}
-use Rattle.machine.specs.Isolation.{Accesses, loads, stores, loads_linked, stores_linked, Asks, by_fetch, by_access, in_plv3, Reaches}
-use Rattle.machine.proofs.Coming.{load_is_width, store_is_width}
+use Rattle.machine.specs.Isolation.{Asks, by_call, in_plv3, Reaches}
+use Rattle.machine.proofs.Ways.{Led, led}
 
-abbrev pub word_of : VirtAddr → ℕ
-word_of at = at.0 % 2 ^ 32
+abbrev pub low_32_bits : VirtAddr → ℕ
+low_32_bits at = at.0 % 2 ^ 32
 
 pub record Located (s : State) (k : AccessKind) (w : ℕ) (at : VirtAddr) (to : PhysAddr) : Type 0 where
-  pub aligned : word_of at % w ≡ 0
+  pub aligned : low_32_bits at % w ≡ 0
   pub mat : ℕ
-  pub leads : translated s k (word_of at) ≡ Ok (place to.0 mat)
+  pub leads : translated s k (low_32_bits at) ≡ Ok (place to.0 mat)
 
 pub located : (s : State) (k : AccessKind) (w : ℕ) (at : VirtAddr) (to : PhysAddr) → locate s k w at ≡ Ok to → Located s k w at to
-located s k w at to is = go (eqb (word_of at % w) 0) refl (translated s k (word_of at)) refl is
+located s k w at to is = go (eqb (low_32_bits at % w) 0) refl (translated s k (low_32_bits at)) refl is
   where
-    go : (b : Bool) → eqb (word_of at % w) 0 ≡ b → (r : Result Place PageFault) → translated s k (word_of at) ≡ r
-        → if_aligned b k (word_of at) r ≡ Ok to → Located s k w at to
+    go : (b : Bool) → eqb (low_32_bits at % w) 0 ≡ b → (r : Result Place PageFault) → translated s k (low_32_bits at) ≡ r
+        → if_aligned b k (low_32_bits at) r ≡ Ok to → Located s k w at to
     go true e (Ok found) f h =
         let same : found.0 ≡ to = cc in
         record { aligned = eqb-true _ _ e; mat = found.1; leads = f ∙ ap (λ (p : PhysAddr). Ok (p, found.1)) same }
-    go true e (Err fault) f h = let z : ◌≡◌ {A = ℕ} 0 1 = cc in absurd (omega arith)
-    go false e r f h = let z : ◌≡◌ {A = ℕ} 0 1 = cc in absurd (omega arith)
+    go true e (Err fault) f h = absurd cc
+    go false e r f h = absurd cc
 
 pub wide : (w : ℕ) → is_width w ≡ true → (w ≡ 1) ⊎ ((w ≡ 2) ⊎ (w ≡ 4))
 wide w e =
@@ -58,21 +57,21 @@ module _ (s : State) (user : s.registers.mode.plv ≡ Plv3) where
   same_mode : s.registers.mode ≡ in_plv3 s.registers.mode
   same_mode = ap (λ level. record s.registers.mode { plv = level }) user
 
-  pub byte_reached : (k : AccessKind) (w : ℕ) (at : VirtAddr) (to : PhysAddr) (x : ℕ) → is_width w ≡ true → locate s k w at ≡ Ok to
-      → Names to.0 w x → Reaches s k x
-  byte_reached k w at to x is_wide is names =
-      let found = located s k w at to is in
-      let stands : Stands (word_of at) w = (wide w is_wide, found.aligned) in
-      let word : word_of at < 2 ^ 32 = mod-lt at.0 (lit< tt) in
+  pub byte_reached : (k : AccessKind) (w : ℕ) (to : PhysAddr) (x : ℕ) → Led s k w to → Names to.0 w x → Reaches s k x
+  byte_reached k w to x led_to names =
+      let at = led_to.at in
+      let found = located s k w at to led_to.leads in
+      let stands : Stands (low_32_bits at) w = (wide w led_to.is_wide, found.aligned) in
+      let word : low_32_bits at < 2 ^ 32 = mod-lt at.0 (lit< tt) in
       let within : x - to.0 < w = omega (arith, names) in
       let there : to.0 + (x - to.0) ≡ x = omega (arith, names) in
       record {
-        at = word_of at + (x - to.0);
+        at = low_32_bits at + (x - to.0);
         mat = found.mat;
-        word = stays_word (word_of at) w (x - to.0) stands word within;
+        word = stays_word (low_32_bits at) w (x - to.0) stands word within;
         leads =
-            sym (ap (λ (mode : Mode). translation mode s.registers.windows s.tlb k (word_of at + (x - to.0))) same_mode)
-            ∙ stays_in_page s.registers.mode s.registers.windows s.tlb k (word_of at) w (x - to.0) to.0 found.mat stands within found.leads
+            sym (ap (λ (mode : Mode). translation mode s.registers.windows s.tlb k (low_32_bits at + (x - to.0))) same_mode)
+            ∙ stays_in_page s.registers.mode s.registers.windows s.tlb k (low_32_bits at) w (x - to.0) to.0 found.mat stands within found.leads
             ∙ ap (λ n. Ok (place n found.mat)) there;
       }
 
@@ -84,13 +83,5 @@ module _ (s : State) (user : s.registers.mode.plv ≡ Plv3) where
       (loads_from mode s.registers.windows s.tlb k r.at) in
       record { at = r.at; mat = granted.0; word = r.word; leads = granted.1 }
 
-  access_wide : (action : Action) (k : AccessKind) (w : ℕ) (at : VirtAddr) → Accesses s action k w at → is_width w ≡ true
-  access_wide action k w at (loads op rd a) = load_is_width op
-  access_wide action k w at (stores op a value) = store_is_width op
-  access_wide action k w at (loads_linked rd a) = refl
-  access_wide action k w at (stores_linked rd a value link) = refl
-
   pub asked_reached : (levels : ℕ) (m : Memory) (x : ℕ) → Asks s levels m x → Reaches s kind.Load x
-  asked_reached levels m x (by_fetch from f names) = loads_too kind.Fetch x (byte_reached kind.Fetch 4 s.user.pc from x refl f.leads names)
-  asked_reached levels m x (by_access action k w at to does accesses leads names) =
-      loads_too k x (byte_reached k w at to x (access_wide action k w at accesses) leads names)
+  asked_reached levels m x (by_call k w to call names) = loads_too k x (byte_reached k w to x (led s levels m k w to call) names)

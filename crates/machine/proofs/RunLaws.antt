@@ -9,11 +9,9 @@ use Rattle.machine.specs.Outcomes.{Outcome, StepAnswer}
 use Rattle.machine.specs.Step.{step, ran_on, run_of}
 use Rattle.machine.specs.Isolation.{Agree, Alike}
 use Rattle.machine.specs.Laws.{followed_by, after, Splits, first, later, RunWithheld, RunIsolated}
-use Rattle.machine.proofs.Alikes.{unmoved, step_isolated}
+use Rattle.machine.proofs.Alikes.{unmoved, with_answer_alike, alike_onwards, step_isolated}
 use Rattle.machine.proofs.Counting.{counter, run_counted}
-
-abbrev one_more_step : Outcome RunReport → Outcome RunReport
-one_more_step o = record o { answer = record o.answer { steps = suc o.answer.steps } }
+use Rattle.machine.proofs.Runs.{one_more_step}
 
 followed_by_later : (k : ℕ) (refusal : Option StepRefusal) (ran rest : Outcome RunReport)
     → one_more_step (followed_by k refusal ran rest) ≡ followed_by (suc k) refusal (one_more_step ran) rest
@@ -52,17 +50,17 @@ module _ (withheld : ℕ → Bool) where
   if_accepted a (Ok e) is P h = h e is
   if_accepted a (Err e) is P h = tt
 
+  -- the report of a run whose first step was refused
+  abbrev refused_first : StepRefusal → RunReport
+  refused_first e = record { steps = 0; refusal = Some e }
+
   ran_on_alike : (m n : Memory) (a : StepAnswer) (o p : Outcome StepAnswer) (ran there : Outcome RunReport) → Alike withheld m n o p
       → IfAccepted a (Alike withheld o.memory p.memory ran there) → Alike withheld m n (ran_on a o ran) (ran_on a p there)
-  ran_on_alike m n (Ok e) o p ran there one more = record {
-    answers = ap (λ (r : RunReport). record r { steps = suc r.steps }) more.answers;
-    cores = more.cores;
-    others = more.others;
-    left_kept = λ x held. more.left_kept x held ∙ one.left_kept x held;
-    right_kept = λ x held. more.right_kept x held ∙ one.right_kept x held;
-  }
+  ran_on_alike m n (Ok e) o p ran there one more =
+      alike_onwards withheld m n o p (one_more_step ran) (one_more_step there) one
+      (with_answer_alike withheld o.memory p.memory (λ (r : RunReport). record r { steps = suc r.steps }) ran there more)
   ran_on_alike m n (Err e) o p ran there one more =
-      record { answers = refl; cores = one.cores; others = one.others; left_kept = one.left_kept; right_kept = one.right_kept }
+      with_answer_alike withheld m n (λ (a : StepAnswer). refused_first e) o p one
 
   run_alike : (count levels : ℕ) (s : State) (m n : Memory) → Agree withheld m n → RunWithheld withheld count levels s m
       → Alike withheld m n (run_of count levels s m) (run_of count levels s n)
@@ -82,16 +80,16 @@ pub run_isolated : (count levels : ℕ) (s : State) (m : Memory) → RunIsolated
 run_isolated count levels s m withheld n agree held = run_alike withheld count levels s m n agree held
 
 -- all that is promised of a run that was taken
-pub record Lawful (count levels : ℕ) (s : State) (m : Memory) (o : Outcome RunReport) : Type 0 where
+pub record LawfulRun (count levels : ℕ) (s : State) (m : Memory) (o : Outcome RunReport) : Type 0 where
   pub counted : counter o.state % 2 ^ 64 ≡ (counter s + o.answer.steps) % 2 ^ 64
   pub splits : Splits count levels s m o
   pub isolated : RunIsolated count levels s m o
 
-pub lawful : (count levels : ℕ) (s t : State) (m : Memory) (o : Outcome RunReport) → t ≡ s → o ≡ run_of count levels t m
-    → Lawful count levels s m o
-lawful count levels s t m o same is =
+pub lawful_run : {s t : State} {o : Outcome RunReport} (count levels : ℕ) (m : Memory) → t ≡ s → o ≡ run_of count levels t m
+    → LawfulRun count levels s m o
+lawful_run {s} {t} {o} count levels m same is =
     let here : o ≡ run_of count levels s m = is ∙ ap (λ (u : State). run_of count levels u m) same in
-    subst (Lawful count levels s m) (sym here) (record {
+    subst (LawfulRun count levels s m) (sym here) (record {
       counted = run_counted count levels s m;
       splits = splits count levels s m;
       isolated = run_isolated count levels s m;

@@ -6,16 +6,16 @@ use Rattle.machine.specs.declared.answers.RunReport.{RunReport}
 use Rattle.machine.specs.declared.answers.StepRefusal.{StepRefusal}
 use Rattle.machine.specs.declared.state.State.{State}
 use Rattle.machine.specs.Isolation.{FetchesNothing}
-use Rattle.machine.specs.Laws.{RunPerforms, first, later, NoStepFetches}
+use Rattle.machine.specs.Laws.{further, RunPerforms, first, later, NoStepFetches}
 use Rattle.machine.specs.Outcomes.{Outcome, StepAnswer, outcome}
 use Rattle.machine.specs.Step.{step, ran_on, run_of}
-use Rattle.machine.specs.Steps.{Single}
+use Rattle.machine.specs.StepLoop.{Single}
 
--- a run of which k steps were made before
-abbrev pub further : ℕ → Outcome RunReport → Outcome RunReport
-further k o = record o { answer = record o.answer { steps = k + o.answer.steps } }
+-- a run with one step more
+abbrev pub one_more_step : Outcome RunReport → Outcome RunReport
+one_more_step o = record o { answer = record o.answer { steps = suc o.answer.steps } }
 
-further_suc : (k : ℕ) (o : Outcome RunReport) → further (k + 1) o ≡ further k (record o { answer = record o.answer { steps = suc o.answer.steps } })
+further_suc : (k : ℕ) (o : Outcome RunReport) → further (k + 1) o ≡ further k (one_more_step o)
 further_suc k o =
     let more : (k + 1) + o.answer.steps ≡ k + suc o.answer.steps = omega arith in
     ap (λ n. record o { answer = record o.answer { steps = n } }) more
@@ -47,7 +47,7 @@ cut_short count k levels s t m n e l is =
 pub first_unfetched : (count k levels : ℕ) (s : State) (m : Memory) → k < count → NoStepFetches (count - k) levels s m → FetchesNothing s levels
 first_unfetched count k levels s m l none =
     let e : suc (count - (k + 1)) ≡ count - k = omega arith in
-    none s m (subst (λ n. RunPerforms levels n s m s m) e first)
+    none s m (subst (λ n. RunPerforms n levels s m s m) e first)
 
 pub later_unfetched : (count k levels : ℕ) (s t : State) (m n : Memory) (e : Event) → k < count → outcome (Ok e) t n ≡ step s levels m
     → NoStepFetches (count - k) levels s m → NoStepFetches (count - (k + 1)) levels t n
@@ -55,8 +55,8 @@ later_unfetched count k levels s t m n e l is none u q performs =
     let left = count - (k + 1) in
     let one_more : suc left ≡ count - k = omega arith in
     let accepted : (step s levels m).answer ≡ Ok e = sym (ap (λ (o : Outcome StepAnswer). o.answer) is) in
-    none u q (subst (λ j. RunPerforms levels j s m u q) one_more
-    (later e accepted (subst (λ (o : Outcome StepAnswer). RunPerforms levels left o.state o.memory u q) is performs)))
+    none u q (subst (λ j. RunPerforms j levels s m u q) one_more
+    (later e accepted (subst (λ (o : Outcome StepAnswer). RunPerforms left levels o.state o.memory u q) is performs)))
 
 -- the first step of a loop, before which neither the state nor the bus has changed
 pub alone : {B : Type 0} (byte : B → Memory) (levels : ℕ) (s0 s t : State) (b0 b n : B) (a : StepAnswer) → (s ≡ s0) × (b ≡ b0)

@@ -11,7 +11,7 @@ use Rattle.translation.specs.Translation.{Place, translation}
 use Rattle.actions.specs.User.{virtual}
 use Rattle.machine.specs.declared.state.State.{State}
 
--- a PC that is no multiple of 4 is ADEF, the address of a load or store that is none of its width ALE
+-- a PC that is no multiple of 4 is ADEF, the address of a load or store that is no multiple of its width ALE
 abbrev pub misalignment : AccessKind → ℕ → Exception
 misalignment Fetch at = Adef
 misalignment Load at = Ale (virtual at)
@@ -30,9 +30,9 @@ abbrev pub if_aligned : Bool → AccessKind → ℕ → Result Place PageFault �
 if_aligned true kind at to = placed at to
 if_aligned false kind at to = Err (misalignment kind at)
 
-abbrev pub locate_word : State → AccessKind → ℕ → ℕ → Result PhysAddr Exception
-locate_word s kind width at = if_aligned (at % width == 0) kind at (translated s kind at)
+abbrev pub locate_at : State → AccessKind → ℕ → ℕ → Result PhysAddr Exception
+locate_at s kind width at = if_aligned (at % width == 0) kind at (translated s kind at)
 
 -- an address has 32 bits
 abbrev pub locate : State → AccessKind → ℕ → VirtAddr → Result PhysAddr Exception
-locate s kind width at = locate_word s kind width (at.0 % 2 ^ 32)
+locate s kind width at = locate_at s kind width (at.0 % 2 ^ 32)

@@ -21,10 +21,11 @@ event_codes Done = None
 event_codes Waiting = None
 event_codes (Exception cause) = Some (ecode cause, esubcode cause)
 
--- the bus's number, 8 or 9, and the address that it names
+-- the bus's number, 8 or 9
 abbrev pub step_refusal_number : StepRefusal → ℕ
 step_refusal_number e = refusal_number e.by_bus
 
+-- the address that the bus names
 abbrev pub step_refusal_address : StepRefusal → Option PhysAddr
 step_refusal_address e = refusal_address e.by_bus
 

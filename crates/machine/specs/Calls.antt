@@ -13,19 +13,20 @@ use Rattle.machine.specs.declared.answers.CallRefusal.TheVariants.{NoRegister, N
 use Rattle.machine.specs.declared.answers.RunReport.{RunReport}
 use Rattle.machine.specs.declared.stages.ClosedCore.{ClosedCore}
 use Rattle.machine.specs.declared.state.State.{State}
-use Rattle.machine.specs.Outcomes.{Outcome, outcome}
+use Rattle.machine.specs.Outcomes.{Outcome, outcome, with_answer}
 use Rattle.machine.specs.Step.{run_of}
 
-abbrev pub accepted : Outcome RunReport → Outcome (Result RunReport CallRefusal)
-accepted o = outcome (Ok o.answer) o.state o.memory
+-- the longest run
+abbrev pub most_steps : ℕ
+most_steps = 65536
 
 abbrev pub by_length : Bool → ℕ → ℕ → State → Memory → Outcome (Result RunReport CallRefusal)
 by_length true count levels s m = outcome (Err RunTooLong) s m
-by_length false count levels s m = accepted (run_of count levels s m)
+by_length false count levels s m = with_answer Ok (run_of count levels s m)
 
--- a run of more than 65,536 steps is refused before anything
+-- a longer run is refused before anything
 abbrev pub run : State → ℕ → ℕ → Memory → Outcome (Result RunReport CallRefusal)
-run s count levels m = by_length (nat_lt 65536 count) count levels s m
+run s count levels m = by_length (nat_lt most_steps count) count levels s m
 
 abbrev pub register_read : State → ℕ → Result ℕ CallRefusal
 register_read s number = cond (nat_lt number 32) (Ok (gr s.user.general (reg_of number))) (Err NoRegister)

@@ -16,7 +16,7 @@ use Rattle.machine.specs.declared.state.State.{State}
 use Rattle.machine.specs.State.{goes_to, with_write}
 use Rattle.machine.specs.Access.{locate}
 use Rattle.machine.specs.Outcomes.{Outcome, StepAnswer, unasked, done, raise, refused, at_place}
-use Rattle.machine.specs.Accesses.{load_from, store_to, load_linked_from, store_conditional_to, probe}
+use Rattle.machine.specs.LoadsAndStores.{load_from, store_to, load_linked_from, store_conditional_to, probe}
 use Rattle.machine.specs.Supervision.{by_privilege}
 
 abbrev pub perform : State → Memory → Action → Outcome StepAnswer
@@ -30,7 +30,7 @@ perform s m (Probe at) = unasked (probe s (locate s kind.Load 1 at)) m
 perform s m (Raise e) = unasked (raise s e) m
 perform s m (Privileged action) = unasked (by_privilege s.registers.mode.plv s action) m
 
--- a word of no row is INE
+-- a word that is no instruction is INE
 abbrev pub decoded : State → Memory → Option Instruction → Outcome StepAnswer
 decoded s m (Some instruction) = perform s m (plan s.user s.registers.timer instruction)
 decoded s m None = unasked (raise s Ine) m

@@ -41,7 +41,7 @@ abbrev pub FetchesNothing : State → ℕ → Type 0
 FetchesNothing s levels = (from : PhysAddr) → Fetches s levels from → ⊥
 
 -- the instruction that it fetches asks for this
-pub record Does (s : State) (levels : ℕ) (m : Memory) (action : Action) : Type 0 where
+pub record AsksFor (s : State) (levels : ℕ) (m : Memory) (action : Action) : Type 0 where
   pub from : PhysAddr
   pub word : ℕ
   pub instruction : Instruction
@@ -57,12 +57,15 @@ pub data Accesses (s : State) : Action → AccessKind → ℕ → VirtAddr → T
   loads_linked : (rd : Reg) (at : VirtAddr) → Accesses s (LoadLinked rd at) kind.Load 4 at
   stores_linked : (rd : Reg) (at : VirtAddr) (value : ℕ) → s.registers.link ≡ true → Accesses s (StoreConditional rd at value) kind.Store 4 at
 
--- the step that begins here asks the bus for the byte x: one of the four of its fetch, or one of its load or store, also
--- where the bus refuses them
+-- the step that begins here calls the bus for w bytes at a place: for its fetch, or for its load or store, also where the bus refuses it
+pub data CallsBus (s : State) (levels : ℕ) (m : Memory) : AccessKind → ℕ → PhysAddr → Type 0 where
+  by_fetch : (from : PhysAddr) → Fetches s levels from → CallsBus s levels m kind.Fetch 4 from
+  by_access : (action : Action) (k : AccessKind) (w : ℕ) (at : VirtAddr) (to : PhysAddr) → AsksFor s levels m action
+      → Accesses s action k w at → locate s k w at ≡ Ok to → CallsBus s levels m k w to
+
+-- the step that begins here asks the bus for the byte x
 pub data Asks (s : State) (levels : ℕ) (m : Memory) (x : ℕ) : Type 0 where
-  by_fetch : (from : PhysAddr) → Fetches s levels from → Names from.0 4 x → Asks s levels m x
-  by_access : (action : Action) (k : AccessKind) (w : ℕ) (at : VirtAddr) (to : PhysAddr) → Does s levels m action
-      → Accesses s action k w at → locate s k w at ≡ Ok to → Names to.0 w x → Asks s levels m x
+  by_call : (k : AccessKind) (w : ℕ) (to : PhysAddr) → CallsBus s levels m k w to → Names to.0 w x → Asks s levels m x
 
 abbrev pub in_plv3 : Mode → Mode
 in_plv3 mode = record mode { plv = Plv3 }
@@ -83,6 +86,7 @@ pub record Withheld (withheld : ℕ → Bool) (s : State) (levels : ℕ) (m : Me
 abbrev pub Agree : (ℕ → Bool) → Memory → Memory → Type 0
 Agree withheld m n = (x : ℕ) → withheld x ≡ false → m x ≡ n x
 
+-- n has the withheld bytes that m has
 abbrev pub Kept : (ℕ → Bool) → Memory → Memory → Type 0
 Kept withheld m n = (x : ℕ) → withheld x ≡ true → n x ≡ m x
 

@@ -3,11 +3,11 @@ pub mod State
 pub mod Access
 pub mod Outcomes
 pub mod Supervision
-pub mod Accesses
+pub mod LoadsAndStores
 pub mod Execution
 pub mod Step
 pub mod Isolation
 pub mod Calls
 pub mod Laws
 pub mod LookAside
-pub mod Steps
+pub mod StepLoop

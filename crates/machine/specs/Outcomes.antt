@@ -7,7 +7,7 @@ use Rattle.pages.specs.declared.access_kind.AccessKind.{AccessKind}
 use Rattle.csr.specs.declared.exception.Exception.{Exception}
 use Rattle.csr.specs.Exceptions.{cause_of}
 use Rattle.control.specs.Exceptions.{raised, handler}
-use Rattle.actions.specs.User.{at_next}
+use Rattle.actions.specs.User.{with_pc}
 use Rattle.machine.specs.declared.answers.Event.{Event}
 use Rattle.machine.specs.declared.answers.Event.TheVariants as event
 use Rattle.machine.specs.declared.answers.StepRefusal.{StepRefusal}
@@ -21,6 +21,10 @@ pub record Outcome (A : Type 0) : Type 0 where
 
 abbrev pub outcome : {A : Type 0} → A → State → Memory → Outcome A
 outcome a s m = record { answer = a; state = s; memory = m }
+
+-- the same with an answer that is made of this one
+abbrev pub with_answer : {A B : Type 0} → (A → B) → Outcome A → Outcome B
+with_answer f o = outcome (f o.answer) o.state o.memory
 
 abbrev pub StepAnswer : Type 0
 StepAnswer = Result Event StepRefusal
@@ -42,7 +46,7 @@ done s = settled event.Done s
 -- the exception is taken: its handler begins
 abbrev pub raise : State → Exception → Settled
 raise s e = settled (event.Exception (cause_of e)) (record s {
-  user = at_next s.user (handler s.registers (cause_of e));
+  user = with_pc s.user (handler s.registers (cause_of e));
   registers = raised s.registers e s.user.pc;
 })
 

@@ -16,7 +16,7 @@ use Rattle.control.specs.TlbInstructions.{entry_to_write, searched, entry_read}
 use Rattle.control.specs.Exceptions.{returned}
 use Rattle.actions.specs.declared.action.PrivilegedAction.{PrivilegedAction}
 use Rattle.actions.specs.declared.action.PrivilegedAction.TheVariants.{Csrrd, Csrwr, Csrxchg, Tlb, Invtlb, Ertn, Idle, Cacop}
-use Rattle.actions.specs.User.{virtual, at_next}
+use Rattle.actions.specs.User.{virtual, with_pc}
 use Rattle.machine.specs.declared.state.Activity.TheVariants.{Waiting}
 use Rattle.machine.specs.declared.state.State.{State}
 use Rattle.machine.specs.State.{advanced, with_result}
@@ -45,7 +45,7 @@ invalidate s (Some which) = done (advanced (record s { tlb = invalidated which s
 
 -- ERTN: the program goes on at ERA
 abbrev pub ertn : State → State
-ertn s = record s { user = at_next s.user s.registers.era; registers = returned s.registers }
+ertn s = record s { user = with_pc s.user s.registers.era; registers = returned s.registers }
 
 -- IDLE: the next instruction follows, once an interrupt is due
 abbrev pub idle : State → State
@@ -56,7 +56,7 @@ supervise s (Csrrd rd csr) = done (csr_read s rd (csr_numbered csr))
 supervise s (Csrwr rd csr value) = done (csr_written s rd (csr_numbered csr) value)
 supervise s (Csrxchg rd csr value mask) = done (csr_exchanged s rd (csr_numbered csr) value mask)
 supervise s (Tlb op) = done (tlb_done s op)
-supervise s (Invtlb op rj rk) = invalidate s (numbered op (rj % 2 ^ 10) (virtual rk))
+supervise s (Invtlb op asid_word address) = invalidate s (numbered op (asid_word % 2 ^ 10) (virtual address))
 supervise s Ertn = done (ertn s)
 supervise s Idle = done (idle s)
 supervise s Cacop = done (advanced s)

@@ -3,7 +3,7 @@ ghost use Rattle.std.specs.Prelude.{◌≡◌, ◌%◌, ◌==◌, true};
 ghost use Rattle.bus.specs.Memory.{is_width};
 ghost use Rattle.machine.specs.Access.{misalignment, locate};
 
-use crate::cached::CachedState;
+use crate::state_with_look_aside::StateWithLookAside;
 use bus::PhysAddr;
 use csr::Exception;
 use pages::{AccessKind, VirtAddr};
@@ -29,7 +29,7 @@ fn misalignment(kind: AccessKind, at: VirtAddr) -> Exception
     }
 }
 
-impl CachedState {
+impl StateWithLookAside {
     #[inline(always)]
     pub(crate) fn locate(
         &mut self,

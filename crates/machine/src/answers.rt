@@ -10,7 +10,7 @@ use pages::{AccessKind, VirtAddr};
 #[derive(Clone, Copy, PartialEq, Eq, Debug)]
 pub enum Event {
     Done,
-    // It did only the beat.
+    // It took the levels and did the beat, and nothing else.
     Waiting,
     Exception(Cause),
 }

@@ -7,25 +7,25 @@ ghost use Rattle.machine.specs.Isolation.{LeadsNowhere};
 ghost use Rattle.machine.specs.Outcomes.{outcome};
 
 use crate::answers::{Event, StepRefusal};
-use crate::cached::CachedState;
+use crate::state_with_look_aside::StateWithLookAside;
 use actions::Action;
 use bus::{Access, Bus};
 use csr::Exception;
 use isa::decode;
 use pages::AccessKind;
 
-impl CachedState {
+impl StateWithLookAside {
     fn perform<B: Bus>(&mut self, bus: &mut B, action: Action) -> Result<Event, StepRefusal>
         ensures value { outcome result self.new (B.byte bus.new) ≡ perform self.old (B.byte bus.old) action }
         ensures kept { B.layout bus.new ≡ B.layout bus.old }
     {
         match action {
             Action::Write { rd, value, next } => {
-                self.plain.user.write(rd, value, next);
+                self.state.user.write(rd, value, next);
                 Ok(Event::Done)
             }
             Action::Go { next } => {
-                self.plain.user.pc = next;
+                self.state.user.pc = next;
                 Ok(Event::Done)
             }
             Action::Load { op, rd, at } => self.load(bus, op, rd, at),
@@ -47,21 +47,21 @@ impl CachedState {
         match decode(word) {
             Some(instruction) => {
                 let action = self
-                    .plain
+                    .state
                     .user
-                    .plan(&self.plain.registers.timer, instruction);
+                    .plan(&self.state.registers.timer, instruction);
                 self.perform(bus, action)
             }
             None => Ok(self.raise(Exception::Ine)),
         }
     }
 
-    fn fetch<B: Bus>(&mut self, bus: &mut B) -> Result<Event, StepRefusal>
+    fn fetch_and_perform<B: Bus>(&mut self, bus: &mut B) -> Result<Event, StepRefusal>
         ensures value { outcome result self.new (B.byte bus.new) ≡ fetch self.old (B.byte bus.old) }
         ensures kept { B.layout bus.new ≡ B.layout bus.old }
         ensures untouched { LeadsNowhere self.old → bus.new ≡ bus.old }
     {
-        match self.locate(AccessKind::Fetch, 4, self.plain.user.pc) {
+        match self.locate(AccessKind::Fetch, 4, self.state.user.pc) {
             Ok(place) => match bus.read(Access::new(place, 4)) {
                 Ok(word) => self.decode_and_perform(bus, word),
                 Err(by_bus) => Err(self.refusal(AccessKind::Fetch, by_bus)),
@@ -75,10 +75,10 @@ impl CachedState {
         ensures kept { B.layout bus.new ≡ B.layout bus.old }
         ensures untouched { (interrupted self.old.registers ≡ false → LeadsNowhere self.old) → bus.new ≡ bus.old }
     {
-        if self.plain.registers.is_interrupted() {
+        if self.state.registers.is_interrupted() {
             Ok(self.raise(Exception::Int))
         } else {
-            self.fetch(bus)
+            self.fetch_and_perform(bus)
         }
     }
 }

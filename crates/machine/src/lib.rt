@@ -3,15 +3,16 @@
 
 mod access;
 pub mod answers;
-pub mod cached;
 mod exceptions;
 mod execution;
 mod loads_and_stores;
 pub mod look_aside;
 mod read_outs;
+mod refusals;
 mod running;
 pub mod stages;
 pub mod state;
+pub mod state_with_look_aside;
 mod stepping;
 mod supervision;
 

@@ -3,29 +3,18 @@ ghost use Rattle.std.specs.Prelude.{◌≡◌};
 ghost use Rattle.pages.specs.declared.access_kind.AccessKind.TheVariants.{Load};
 ghost use Rattle.actions.specs.declared.action.Action.TheVariants as action;
 ghost use Rattle.machine.specs.Access.{locate};
-ghost use Rattle.machine.specs.Accesses.{probe};
+ghost use Rattle.machine.specs.LoadsAndStores.{probe};
 ghost use Rattle.machine.specs.Execution.{perform};
 ghost use Rattle.machine.specs.Outcomes.{settled, outcome};
 
 use crate::answers::{Event, StepRefusal};
-use crate::cached::CachedState;
-use bus::{Access, Bus, Refusal};
+use crate::state_with_look_aside::StateWithLookAside;
+use bus::{Access, Bus};
 use isa::{LoadOp, Reg, StoreOp};
 use operations::{load_result, load_width, store_width};
 use pages::{AccessKind, VirtAddr};
 
-impl CachedState {
-    #[cold]
-    pub(crate) fn refusal(&self, kind: AccessKind, by_bus: Refusal) -> StepRefusal
-        ensures { result ≡ record { by_bus = by_bus; kind = kind; pc = self.now.user.pc } }
-    {
-        StepRefusal {
-            by_bus,
-            kind,
-            pc: self.plain.user.pc,
-        }
-    }
-
+impl StateWithLookAside {
     // Each operation has a copy of its own, in which its width is a constant and no longer tested.
     pub(crate) fn load<B: Bus>(
         &mut self,
@@ -61,7 +50,7 @@ impl CachedState {
         match self.locate(AccessKind::Load, width, at) {
             Ok(place) => match bus.read(Access::new(place, width)) {
                 Ok(value) => {
-                    self.plain.set_result(rd, load_result(op, value));
+                    self.state.set_result(rd, load_result(op, value));
                     Ok(Event::Done)
                 }
                 Err(by_bus) => Err(self.refusal(AccessKind::Load, by_bus)),
@@ -102,7 +91,7 @@ impl CachedState {
         match self.locate(AccessKind::Store, width, at) {
             Ok(place) => match bus.write(Access::new(place, width), value) {
                 Ok(()) => {
-                    self.plain.advance();
+                    self.state.advance();
                     Ok(Event::Done)
                 }
                 Err(by_bus) => Err(self.refusal(AccessKind::Store, by_bus)),
@@ -124,8 +113,8 @@ impl CachedState {
         match self.locate(AccessKind::Load, 4, at) {
             Ok(place) => match bus.read(Access::new(place, 4)) {
                 Ok(value) => {
-                    self.plain.set_result(rd, value);
-                    self.plain.registers.link = true;
+                    self.state.set_result(rd, value);
+                    self.state.registers.link = true;
                     Ok(Event::Done)
                 }
                 Err(by_bus) => Err(self.refusal(AccessKind::Load, by_bus)),
@@ -147,12 +136,12 @@ impl CachedState {
     {
         match self.locate(AccessKind::Store, 4, at) {
             Ok(place) => {
-                let link = self.plain.registers.link;
+                let link = self.state.registers.link;
                 if link && let Err(by_bus) = bus.write(Access::new(place, 4), value) {
                     return Err(self.refusal(AccessKind::Store, by_bus));
                 }
-                self.plain.set_result(rd, u32::from(link));
-                self.plain.registers.link = false;
+                self.state.set_result(rd, u32::from(link));
+                self.state.registers.link = false;
                 Ok(Event::Done)
             }
             Err(exception) => Ok(self.raise(exception)),
@@ -165,7 +154,7 @@ impl CachedState {
     {
         match self.locate(AccessKind::Load, 1, at) {
             Ok(_) => {
-                self.plain.advance();
+                self.state.advance();
                 Event::Done
             }
             Err(exception) => self.raise(exception),

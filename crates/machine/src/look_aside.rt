@@ -1,22 +1,22 @@
 // The look-aside: for each kind of access the page of the last one, and the frame to which that led.
 ghost use Rattle.std.specs.Prelude.{◌≡◌, ◌/◌, ◌^◌};
-ghost use Rattle.machine.specs.LookAside.{nothing_known, found, known_by, remembered};
+ghost use Rattle.machine.specs.LookAside.{nothing_known, found, page_known_by, remembered};
 
 use bus::PhysAddr;
 use pages::{AccessKind, Frame, VirtAddr};
 
 // Where a page of 4 KiB leads. It is named by the upper 20 bits of its addresses.
 #[derive(Clone, Copy, PartialEq, Eq, Debug)]
-pub struct Known {
+pub struct KnownPage {
     pub(crate) page: u32,
     pub(crate) frame: Frame,
 }
 
 #[derive(Clone, Copy, PartialEq, Eq, Debug)]
 pub struct LookAside {
-    pub(crate) fetch: Option<Known>,
-    pub(crate) load: Option<Known>,
-    pub(crate) store: Option<Known>,
+    pub(crate) fetch: Option<KnownPage>,
+    pub(crate) load: Option<KnownPage>,
+    pub(crate) store: Option<KnownPage>,
 }
 
 fn page_of(at: VirtAddr) -> u32
@@ -54,9 +54,9 @@ impl LookAside {
     }
 
     pub(crate) fn remember(&mut self, kind: AccessKind, at: VirtAddr, place: PhysAddr)
-        ensures { self.new ≡ remembered self.old kind (known_by at.0 place.0) }
+        ensures { self.new ≡ remembered self.old kind (page_known_by at.0 place.0) }
     {
-        let known = Some(Known {
+        let known = Some(KnownPage {
             page: page_of(at),
             frame: Frame::of_low_bits(place.0 >> 12),
         });

@@ -13,7 +13,7 @@ impl RunningCore {
     pub fn pc(&self) -> VirtAddr
         ensures { result ≡ self.now.user.pc }
     {
-        self.state.plain.user.pc
+        self.inner.state.user.pc
     }
 
     pub fn register(&self, number: u32) -> Result<u32, CallRefusal>
@@ -23,7 +23,7 @@ impl RunningCore {
         ensures zero { number ≡ 0 → result ≡ Ok 0 }
     {
         if number < 32 {
-            Ok(self.state.plain.user.general.read(Reg::of_low_bits(number)))
+            Ok(self.inner.state.user.general.read(Reg::of_low_bits(number)))
         } else {
             Err(CallRefusal::NoRegister)
         }
@@ -33,7 +33,7 @@ impl RunningCore {
         ensures { result ≡ control_register_read self.now number }
     {
         match Csr::numbered(number) {
-            Some(csr) => Ok(self.state.plain.registers.read(csr)),
+            Some(csr) => Ok(self.inner.state.registers.read(csr)),
             None => Err(CallRefusal::NoControlRegister),
         }
     }
@@ -42,7 +42,7 @@ impl RunningCore {
         ensures { result ≡ tlb_entry_read self.now number }
     {
         if number < 16 {
-            Ok(*self.state.plain.tlb.entry(Bits::of_low_bits(number)))
+            Ok(*self.inner.state.tlb.entry(Bits::of_low_bits(number)))
         } else {
             Err(CallRefusal::NoTlbEntry)
         }

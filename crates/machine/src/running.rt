@@ -1,5 +1,5 @@
 // Steps and runs of a running core.
-ghost use Rattle.std.specs.Prelude.{◌≡◌, ℕ, ◌+◌, ◌%◌, ◌^◌, true, IfOk, IfErr, OnErr};
+ghost use Rattle.std.specs.Prelude.{◌≡◌, ◌+◌, ◌%◌, ◌^◌, true, IfOk, IfErr, OnErr};
 ghost use Rattle.bus.specs.Memory.{Memory};
 ghost use Rattle.control.specs.Exceptions.{interrupted};
 ghost use Rattle.machine.specs.declared.state.State.{State as TheState};
@@ -25,9 +25,9 @@ impl RunningCore {
         // A step that fetches nothing, as one that waits or takes an interrupt, leaves the bus alone, with all that it keeps for itself.
         ensures untouched { FetchesNothing self.old levels → bus.new ≡ bus.old }
 
-        // The bus refuses by 8 for a byte that is absent or by 9 for one that is fixed and was to be stored to; then core and
-        // memory stay as they were.
-        ensures refused { IfErr result (λ e. Refused self.old (B.byte bus.old) e self.new (B.byte bus.new)) }
+        // Of the bytes of a call that the step makes, the bus refuses by 8 the lowest that is absent, or else by 9 the lowest that
+        // is fixed and was to be stored to; then core and memory stay as they were.
+        ensures refused { IfErr result (λ e. Refused self.old levels (B.byte bus.old) e self.new (B.byte bus.new)) }
 
         // An exception begins its handler in PLV0 with IE 0, and ERA is the step's PC.
         ensures exception { IfException result (HandlerBegins self.old self.new) }
@@ -37,10 +37,11 @@ impl RunningCore {
         ensures isolated { StepIsolated self.old levels (B.byte bus.old) (outcome result self.new (B.byte bus.new)) }
         ensures confined { Confined self.old (B.byte bus.old) (outcome result self.new (B.byte bus.new)) }
     {
-        self.state.steps(bus, 1, levels).last
+        self.inner.steps(bus, 1, levels).last
     }
 
     // Makes `count` steps with the same levels, or as many as come before a refused one.
+    #[tactic(auto, using(crate::proofs::Confining::confined))]
     pub fn run<B: Bus>(
         &mut self,
         bus: &mut B,
@@ -60,11 +61,11 @@ impl RunningCore {
         // A run of a + b steps is a run of a and then one of b.
         ensures splits { IfOk result (λ report. Splits count levels self.old (B.byte bus.old) (outcome report self.new (B.byte bus.new))) }
         ensures isolated { IfOk result (λ report. RunIsolated count levels self.old (B.byte bus.old) (outcome report self.new (B.byte bus.new))) }
-        ensures confined { (s : TheState) (m : Memory) → RunPerforms levels count self.old (B.byte bus.old) s m → Confined s m (step s levels m) }
+        ensures confined { (s : TheState) (m : Memory) → RunPerforms count levels self.old (B.byte bus.old) s m → Confined s m (step s levels m) }
     {
         if count > MOST_STEPS {
             return Err(CallRefusal::RunTooLong);
         }
-        Ok(self.state.steps(bus, count, levels).report())
+        Ok(self.inner.steps(bus, count, levels).report())
     }
 }

@@ -4,7 +4,7 @@ ghost use Rattle.std.specs.Prelude.{◌≡◌};
 ghost use Rattle.machine.specs.State.{reset_state};
 ghost use Rattle.machine.specs.Calls.{closed};
 
-use crate::cached::CachedState;
+use crate::state_with_look_aside::StateWithLookAside;
 use pages::VirtAddr;
 use std::marker::Model;
 
@@ -13,7 +13,7 @@ pub struct UnresetCore;
 
 #[derive(PartialEq, Eq, Debug, Drop)]
 pub struct RunningCore {
-    pub(crate) state: CachedState,
+    pub(crate) inner: StateWithLookAside,
 }
 
 #[derive(PartialEq, Eq, Debug, Drop)]
@@ -28,9 +28,9 @@ impl Model for RunningCore {
 
     ghost Value = { State };
 
-    ghost view = { λ core. core.state };
+    ghost view = { λ core. core.inner };
 
-    ghost inverse = { λ state. record { state = state } };
+    ghost inverse = { λ state. record { inner = state } };
 }
 
 impl UnresetCore {
@@ -38,7 +38,7 @@ impl UnresetCore {
         ensures { result ≡ reset_state }
     {
         RunningCore {
-            state: CachedState::new(),
+            inner: StateWithLookAside::new(),
         }
     }
 }
@@ -47,15 +47,15 @@ impl RunningCore {
     pub fn reset(&mut self)
         ensures { self.new ≡ reset_state }
     {
-        self.state = CachedState::new();
+        self.inner = StateWithLookAside::new();
     }
 
     pub fn close(self) -> ClosedCore
         ensures { result ≡ closed self }
     {
         ClosedCore {
-            pc: self.state.plain.user.pc,
-            counter: self.state.plain.registers.timer.counter,
+            pc: self.inner.state.user.pc,
+            counter: self.inner.state.registers.timer.counter,
         }
     }
 }

@@ -6,14 +6,15 @@ ghost use Rattle.machine.specs.Isolation.{LeadsNowhere, FetchesNothing};
 ghost use Rattle.machine.specs.Laws.{NoStepFetches};
 ghost use Rattle.machine.specs.Outcomes.{outcome};
 ghost use Rattle.machine.specs.Step.{keeps_waiting, act, step, run_of};
-ghost use Rattle.machine.specs.Steps.{report, Single};
+ghost use Rattle.machine.specs.StepLoop.{report, Single};
 
 use crate::answers::{Event, RunReport, StepRefusal};
-use crate::cached::CachedState;
 use crate::state::Activity;
+use crate::state_with_look_aside::StateWithLookAside;
 use bus::Bus;
 
-// How many steps a loop made, and what the last answered; none answers `Done`.
+// How many steps a loop made, and what it was answered last: by its last step, or by the refused one that ended it. Where it
+// made none, that is Done.
 #[derive(Clone, Copy)]
 pub struct StepsMade {
     pub(crate) steps: u32,
@@ -31,17 +32,17 @@ impl StepsMade {
     }
 }
 
-impl CachedState {
+impl StateWithLookAside {
     // A waiting core for which nothing is due goes on waiting.
     fn act<B: Bus>(&mut self, bus: &mut B) -> Result<Event, StepRefusal>
         ensures value { outcome result self.new (B.byte bus.new) ≡ act self.old (B.byte bus.old) }
         ensures kept { B.layout bus.new ≡ B.layout bus.old }
         ensures untouched { (keeps_waiting self.old.activity (due self.old.registers.interrupts) ≡ false → interrupted self.old.registers ≡ false → LeadsNowhere self.old) → bus.new ≡ bus.old }
     {
-        if self.plain.keeps_waiting() {
+        if self.state.keeps_waiting() {
             return Ok(Event::Waiting);
         }
-        self.plain.activity = Activity::Running;
+        self.state.activity = Activity::Running;
         self.execute(bus)
     }
 
@@ -51,17 +52,17 @@ impl CachedState {
         ensures kept { B.layout bus.new ≡ B.layout bus.old }
         ensures untouched { FetchesNothing self.old levels → bus.new ≡ bus.old }
     {
-        let old_levels = self.plain.registers.interrupts.pending.hwi;
-        let old_activity = self.plain.activity;
-        self.plain.registers.take_levels(levels);
+        let old_levels = self.state.registers.interrupts.pending.hwi;
+        let old_activity = self.state.activity;
+        self.state.registers.take_levels(levels);
         match self.act(bus) {
             Ok(event) => {
-                self.plain.registers.beat();
+                self.state.registers.beat();
                 Ok(event)
             }
             Err(refusal) => {
-                self.plain.registers.take_levels(old_levels);
-                self.plain.activity = old_activity;
+                self.state.registers.take_levels(old_levels);
+                self.state.activity = old_activity;
                 Err(refusal)
             }
         }

@@ -48,10 +48,10 @@ impl State {
         self.advance();
     }
 
-    fn invtlb(&mut self, op: u32, rj: u32, rk: u32) -> Event
-        ensures { settled result self.new ≡ invalidate self.old (numbered op (rj % 2 ^ 10) (virtual rk)) }
+    fn invtlb(&mut self, op: u32, asid_word: u32, address: u32) -> Event
+        ensures { settled result self.new ≡ invalidate self.old (numbered op (asid_word % 2 ^ 10) (virtual address)) }
     {
-        match Invalidation::numbered(op, rj, rk) {
+        match Invalidation::numbered(op, asid_word, address) {
             Some(which) => {
                 self.tlb.invalidate(which);
                 self.advance();
@@ -87,7 +87,11 @@ impl State {
                 mask,
             } => self.csrxchg(rd, csr, value, mask),
             PrivilegedAction::Tlb(op) => self.tlb(op),
-            PrivilegedAction::Invtlb { op, rj, rk } => return self.invtlb(op, rj, rk),
+            PrivilegedAction::Invtlb {
+                op,
+                asid_word,
+                address,
+            } => return self.invtlb(op, asid_word, address),
             PrivilegedAction::Ertn => self.ertn(),
             PrivilegedAction::Idle => self.idle(),
             PrivilegedAction::Cacop => self.advance(),

@@ -1,7 +1,6 @@
 -- The worked examples.
 use Rattle.std.proofs.Common.{◌≡◌, ℕ, suc, cond, Some, Ok, Result, refl, ap, ◌∙◌}
 use Rattle.std.proofs.lemmas.Bool.{eq-eqb}
-use Rattle.bus.specs.declared.refusal.Refusal.{Refusal}
 use Rattle.bus.specs.Memory.{Memory}
 use Rattle.isa.specs.Fields.{reg_of}
 use Rattle.isa.specs.Decoding.{decode_of}
@@ -19,56 +18,17 @@ use Rattle.machine.specs.declared.answers.RunReport.{RunReport}
 use Rattle.machine.specs.Calls.{run}
 use Rattle.pages.specs.declared.address.VirtAddr.{VirtAddr}
 use Rattle.machine.specs.declared.state.State.{State}
-use Rattle.machine.specs.Outcomes.{Outcome, outcome, StepAnswer}
-use Rattle.machine.specs.Execution.{fetched}
+use Rattle.machine.specs.Outcomes.{outcome}
 use Rattle.machine.specs.State.{reset_state, goes_to, with_write}
 use Rattle.machine.specs.Supervision.{csr_written}
-use Rattle.machine.specs.Step.{at_levels, awake, with_beat, ended, step, ran_on, run_of}
+use Rattle.machine.specs.Step.{with_beat, step, run_of}
+use Rattle.machine.proofs.FirstProgram.{begun, by_fetch, sum_3, run_one, three_steps}
 use Rattle.selftest.specs.Addition.{HoldsWord, HoldsAddition, the_sum}
 use Rattle.selftest.specs.declared.addition.Sum.{Sum}
 use Rattle.selftest.specs.Examples.{HoldsTimer, WorkedExamples}
 
-abbrev begun : State → State
-begun s = awake (at_levels s 0)
-
--- the step whose fetch gives r
-abbrev by_fetch : State → Memory → Result ℕ Refusal → Outcome StepAnswer
-by_fetch s m r = ended s m (fetched (begun s) m r).answer (fetched (begun s) m r)
-
--- what the steps of the first program leave
-abbrev pub sum_1 : State
-sum_1 = with_beat (with_write (begun reset_state) (reg_of 4) 0xffffffff (virtual 0x1c000004))
-
-abbrev pub sum_2 : State
-sum_2 = with_beat (with_write (begun sum_1) (reg_of 5) 0xfffffffe (virtual 0x1c000008))
-
-abbrev pub sum_3 : State
-sum_3 = with_beat (goes_to (begun sum_2) (virtual 0x1c000008))
-
-pub sum_step_1 : (m : Memory) → HoldsWord m 0x1c000000 0x02bffc04 → step reset_state 0 m ≡ outcome (Ok event.Done) sum_1 m
-unfolding step decode_of
-sum_step_1 m holds = ap (by_fetch reset_state m) holds
-
-pub sum_step_2 : (m : Memory) → HoldsWord m 0x1c000004 0x00101085 → step sum_1 0 m ≡ outcome (Ok event.Done) sum_2 m
-unfolding step decode_of
-sum_step_2 m holds = ap (by_fetch sum_1 m) holds
-
-pub sum_step_3 : (m : Memory) → HoldsWord m 0x1c000008 0x50000000 → step sum_2 0 m ≡ outcome (Ok event.Done) sum_3 m
-unfolding step decode_of
-sum_step_3 m holds = ap (by_fetch sum_2 m) holds
-
-abbrev one_more : Outcome RunReport → Outcome RunReport
-one_more o = record o { answer = record o.answer { steps = suc o.answer.steps } }
-
--- a run whose first step is done
-run_one : (n : ℕ) (s t : State) (m : Memory) → step s 0 m ≡ outcome (Ok event.Done) t m → run_of (suc n) 0 s m ≡ one_more (run_of n 0 t m)
-run_one n s t m is = ap (λ o. ran_on o.answer o (run_of n 0 o.state o.memory)) is
-
 sum_run : (m : Memory) → HoldsAddition m → (run_of 3 0 reset_state m).state ≡ sum_3
-sum_run m holds =
-    ap (λ o. o.state) (run_one 2 reset_state sum_1 m (sum_step_1 m holds.first))
-    ∙ ap (λ o. o.state) (run_one 1 sum_1 sum_2 m (sum_step_2 m holds.second))
-    ∙ ap (λ o. o.state) (run_one 0 sum_2 sum_3 m (sum_step_3 m holds.third))
+sum_run m holds = ap (λ o. o.state) (three_steps m holds.first holds.second holds.third)
 
 abbrev timer_1 : State
 timer_1 = with_beat (with_write (begun reset_state) (reg_of 4) 5 (virtual 0x1c000004))

@@ -23,13 +23,13 @@ use Rattle.machine.specs.declared.answers.Event.TheVariants as event
 use Rattle.machine.specs.declared.state.State.{State}
 use Rattle.machine.specs.Access.{locate}
 use Rattle.machine.specs.Outcomes.{outcome}
-use Rattle.machine.specs.Isolation.{Accesses, loads, stores, loads_linked, stores_linked, Asks, by_fetch, by_access, in_plv3, Reaches, Withheld}
+use Rattle.machine.specs.Isolation.{Accesses, loads, stores, loads_linked, stores_linked, by_fetch, by_access, Asks, by_call, in_plv3, Reaches, Withheld}
 use Rattle.machine.specs.Laws.{RunPerforms, first, later, RunWithheld}
 use Rattle.machine.specs.State.{reset_state}
 use Rattle.machine.specs.Step.{step}
+use Rattle.machine.proofs.FirstProgram.{sum_1, sum_2, sum_3, sum_step_1, sum_step_2, sum_step_3}
 use Rattle.selftest.specs.Addition.{HoldsAddition}
 use Rattle.selftest.specs.Reach.{other_bytes, user_entry, user_state, Reach}
-use Rattle.selftest.proofs.Examples.{sum_1, sum_2, sum_3, sum_step_1, sum_step_2, sum_step_3}
 
 abbrev is_access : Action → Bool
 is_access (Write rd value next) = false
@@ -53,27 +53,27 @@ module _ (s : State) (m : Memory) (from : PhysAddr) (word : ℕ) (i : Instructio
     (leads : locate s kind.Fetch 4 s.user.pc ≡ Ok from) (reads : read_of m from.0 4 ≡ Ok word) (is : decode_of word ≡ Some i)
     (plain : is_access (plan s.user s.registers.timer i) ≡ false) (clear : (x : ℕ) → Names from.0 4 x → withheld x ≡ false) where
   quiet_asks : (x : ℕ) → withheld x ≡ true → Asks s 0 m x → ⊥
-  quiet_asks x held (by_fetch f fetches names) =
+  quiet_asks x held (by_call l v place (by_fetch f fetches) names) =
       let same : f ≡ from = cc in
       both_ways (withheld x) (clear x (subst (λ (p : PhysAddr). Names p.0 4 x) same names)) held
-  quiet_asks x held (by_access a k w at to does accesses l names) =
-      let there : does.from ≡ from = cc in
-      let read : read_of m from.0 4 ≡ Ok does.word = subst (λ (p : PhysAddr). read_of m p.0 4 ≡ Ok does.word) there does.reads in
-      let said : does.word ≡ word = cc in
-      let means : decode_of word ≡ Some does.instruction = subst (λ (n : ℕ). decode_of n ≡ Some does.instruction) said does.is in
-      let same : does.instruction ≡ i = cc in
-      let action : a ≡ plan s.user s.registers.timer i = sym does.means ∙ ap (plan s.user s.registers.timer) same in
+  quiet_asks x held (by_call l v place (by_access a k w at to asks_for accesses led) names) =
+      let there : asks_for.from ≡ from = cc in
+      let read : read_of m from.0 4 ≡ Ok asks_for.word = subst (λ (p : PhysAddr). read_of m p.0 4 ≡ Ok asks_for.word) there asks_for.reads in
+      let said : asks_for.word ≡ word = cc in
+      let means : decode_of word ≡ Some asks_for.instruction = subst (λ (n : ℕ). decode_of n ≡ Some asks_for.instruction) said asks_for.is in
+      let same : asks_for.instruction ≡ i = cc in
+      let action : a ≡ plan s.user s.registers.timer i = sym asks_for.means ∙ ap (plan s.user s.registers.timer) same in
       both_ways (is_access a) (ap is_access action ∙ plain) (accesses_only s a k w at accesses)
 
   quiet : Withheld withheld s 0 m
   quiet = record {
     of_plv0 = λ e x held asks. quiet_asks x held asks;
-    of_plv3 = λ e x held reaches. let z : Plv0 ≡ Plv3 = sym kernel ∙ e in let y : ◌≡◌ {A = ℕ} 0 1 = cc in absurd (omega arith);
+    of_plv3 = λ e x held reaches. let z : Plv0 ≡ Plv3 = sym kernel ∙ e in absurd cc;
   }
 
-none_left : (levels n : ℕ) (s t : State) (m k : Memory) → RunPerforms levels n s m t k → n ≡ zero → ⊥
-none_left levels n s t m k first is = let z : ◌≡◌ {A = ℕ} 0 1 = cc in absurd (omega arith)
-none_left levels n s t m k (later e answer rest) is = let z : ◌≡◌ {A = ℕ} 0 1 = cc in absurd (omega arith)
+none_left : (levels n : ℕ) (s t : State) (m k : Memory) → RunPerforms n levels s m t k → n ≡ zero → ⊥
+none_left levels n s t m k first is = absurd cc
+none_left levels n s t m k (later e answer rest) is = absurd cc
 
 module _ (withheld : ℕ → Bool) (levels : ℕ) where
   run_over : (s : State) (m : Memory) → RunWithheld withheld zero levels s m
@@ -114,7 +114,7 @@ abbrev InThePage : AccessKind → ℕ → Type 0
 InThePage k x = (is_store k ≡ false) × ((0x800000 ≤ x) × (x < 0xa00000))
 
 nothing_there : (k : AccessKind) (x mat : ℕ) (fault : PageFault) → ◌≡◌ {A = Result Place PageFault} (Err fault) (Ok (place x mat)) → InThePage k x
-nothing_there k x mat fault is = let z : ◌≡◌ {A = ℕ} 0 1 = cc in absurd (omega arith)
+nothing_there k x mat fault is = absurd cc
 
 place_of : (p x mat : ℕ) → ◌≡◌ {A = Result Place PageFault} (Ok (place p 0)) (Ok (place x mat)) → p ≡ x
 place_of p x mat is =
@@ -150,5 +150,5 @@ reach = record {
   withheld = run_quiet;
   reached = record { at = 0x401234; mat = 0; word = lit< tt; leads = refl };
   beside = λ x r. (in_the_page kind.Load x r).1;
-  unwritten = λ x r. let z : true ≡ false = (in_the_page kind.Store x r).0 in let y : ◌≡◌ {A = ℕ} 0 1 = cc in absurd (omega arith);
+  unwritten = λ x r. let z : true ≡ false = (in_the_page kind.Store x r).0 in absurd cc;
 }

@@ -41,7 +41,7 @@ abbrev pub mapped_mode : Privilege → Mode
 mapped_mode plv = record reset_mode { plv = plv; translation = Mapped }
 
 abbrev pub no_windows : Windows
-no_windows = record { dmw0 = dmw_of 0; dmw1 = dmw_of 0 }
+no_windows = reset_state.registers.windows
 
 -- segment 5 is segment 0, for PLV0
 abbrev pub one_window : Windows

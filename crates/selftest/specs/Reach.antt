@@ -10,7 +10,7 @@ use Rattle.machine.specs.Isolation.{Reaches}
 use Rattle.machine.specs.Laws.{RunWithheld}
 use Rattle.machine.specs.State.{reset_state}
 use Rattle.selftest.specs.Addition.{HoldsAddition}
-use Rattle.selftest.specs.Examples.{mapped_mode, no_windows, large_entry}
+use Rattle.selftest.specs.Examples.{mapped_mode, large_entry}
 
 -- all bytes but the first program's
 abbrev pub other_bytes : ℕ → Bool
@@ -22,7 +22,7 @@ user_entry = record large_entry { even = record large_entry.even { plv = 3 } }
 
 abbrev pub user_state : State
 user_state = record reset_state {
-  registers = record reset_state.registers { mode = mapped_mode Plv3; windows = no_windows };
+  registers = record reset_state.registers { mode = mapped_mode Plv3 };
   tlb = filled user_entry reset;
 }
 

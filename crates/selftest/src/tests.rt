@@ -1,7 +1,5 @@
 // The first program on a bank; how large a core is; numbers of answers, as the documents have them; and what no contract can say: that there is memory
 // for a list's answers, and how often a step asks the bus, whose meaning is the same after a read.
-ghost use Rattle.std.specs.Prelude.{◌≡◌};
-
 use crate::{Sum, add_up};
 use bus::{Access, Bus, PhysAddr, Refusal};
 use csr::Cause;

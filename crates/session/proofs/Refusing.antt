@@ -13,7 +13,7 @@ use Rattle.numerals.specs.Decimal.{decimal_value}
 use Rattle.setup.specs.Lines.{Form, write, run, register, form_of}
 use Rattle.setup.proofs.Forms.{exact}
 use Rattle.machine.specs.declared.answers.CallRefusal.TheVariants.{NoRegister}
-use Rattle.machine.specs.Calls.{by_length}
+use Rattle.machine.specs.Calls.{most_steps, by_length}
 use Rattle.session.specs.declared.session.Stage.{Stage}
 use Rattle.session.specs.declared.session.Stage.TheVariants.{Unreset, Running}
 use Rattle.session.specs.Listings.{Contents, is_full}
@@ -36,9 +36,9 @@ module _ (p : Progress) (listing : Contents) (line : List ℕ) (room : is_full l
   by_stage address value is (Unreset u) e = by_write address value is (ap (out_of_place (write address value)) e) (write_of p.memory (hex_value address) 4 (hex_value value)) refl
   by_stage address value is (Running s) e = record { reason = not_here (write address value) room is (ap (out_of_place (write address value)) e); leaves = refl }
 
-  by_count : (count : List ℕ) → Is (run count) line → (long : Bool) → nat_lt 65536 (decimal_value count) ≡ long
+  by_count : (count : List ℕ) → Is (run count) line → (long : Bool) → nat_lt most_steps (decimal_value count) ≡ long
       → IfRefused (ran (counted p) (by_length long (decimal_value count) 0 (core_to_run p.stage) p.memory))
-  by_count count is true e = record { reason = too_long count room is (ltb-true 65536 (decimal_value count) e); leaves = refl }
+  by_count count is true e = record { reason = too_long count room is (ltb-true most_steps (decimal_value count) e); leaves = refl }
   by_count count is false e = tt
 
   by_number : (number : List ℕ) (value : ℕ) → Is (register number) line → out_of_place (register number) p.stage ≡ false → (fits : Bool) → nat_lt (decimal_value number) 32 ≡ fits
@@ -53,7 +53,7 @@ module _ (p : Progress) (listing : Contents) (line : List ℕ) (room : is_full l
   by_form : (f : Option Form) → form_of line ≡ f → IfRefused (perform_form (counted p) f)
   by_form None e = record { reason = no_form room (λ f is. none-some f (sym e ∙ (exact line).complete f is.0 is.1)); leaves = refl }
   by_form (Some (write address value)) e = by_stage address value ((exact line).sound (write address value) e) p.stage refl
-  by_form (Some (run count)) e = by_count count ((exact line).sound (run count) e) (nat_lt 65536 (decimal_value count)) refl
+  by_form (Some (run count)) e = by_count count ((exact line).sound (run count) e) (nat_lt most_steps (decimal_value count)) refl
   by_form (Some (register number)) e = by_register number ((exact line).sound (register number) e) p.stage refl
 
   pub refused : IfRefused (read_line p line)

@@ -6,6 +6,7 @@ use Rattle.numerals.specs.Hexadecimal.{hex_value}
 use Rattle.numerals.specs.Decimal.{decimal_value}
 use Rattle.setup.specs.Lines.{Form, write, run, register, line_text, well_formed}
 use Rattle.machine.specs.declared.answers.CallRefusal.TheVariants.{NoRegister, RunTooLong}
+use Rattle.machine.specs.Calls.{most_steps}
 use Rattle.session.specs.declared.answer.LineAnswer.TheVariants.{Register}
 use Rattle.session.specs.declared.answer.LineRefusal.{LineRefusal}
 use Rattle.session.specs.declared.answer.LineRefusal.TheVariants.{NoForm, OutOfPlace, Bus, Call, ListingFull}
@@ -36,7 +37,7 @@ pub data Why (p : Progress) (listing : Contents) (line : List ℕ) : LineRefusal
       → WriteRule p.memory (hex_value address) 4 (hex_value word) (Err e) p.memory → Why p listing line (Bus e)
   no_register : (number : List ℕ) → is_full listing ≡ false → Is (register number) line → out_of_place (register number) p.stage ≡ false → 31 < decimal_value number
       → Why p listing line (Call NoRegister)
-  too_long : (count : List ℕ) → is_full listing ≡ false → Is (run count) line → 65536 < decimal_value count → Why p listing line (Call RunTooLong)
+  too_long : (count : List ℕ) → is_full listing ≡ false → Is (run count) line → most_steps < decimal_value count → Why p listing line (Call RunTooLong)
 
 -- a refused line leaves core and memory and is counted, but a run that is too long has reset a core that was never reset, and a line
 -- that found the listing full leaves all as it was

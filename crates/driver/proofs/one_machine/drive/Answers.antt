@@ -1,10 +1,7 @@
 use Rattle.std.proofs.Common.{refl, arith}
-use Rattle.driver.proofs.Driving.{all_confined, drive_isolated}
+use Rattle.driver.proofs.Driving.{drive_isolated}
 use Rattle.driver.proofs.SoFar.{none_made, one_made, all_made}
 use Rattle.driver.proofs.one_machine.drive.Goals as goal
-
-pub returns-in_err-answers-clause-confined : goal.returns-in_err-answers-clause-confined
-returns-in_err-answers-clause-confined g c = all_confined c.args.calls.now c.args.core.now (g.B.Bus.byte c.args.bus.now)
 
 pub loop-call-init : goal.loop-call-init
 loop-call-init g c = (
@@ -29,6 +26,3 @@ returns-clause-value g c =
 
 pub returns-clause-isolated : goal.returns-clause-isolated
 returns-clause-isolated g c = drive_isolated c.args.calls.now c.args.core.now (g.B.Bus.byte c.args.bus.now) _ (returns-clause-value g c)
-
-pub returns-clause-confined : goal.returns-clause-confined
-returns-clause-confined g c = all_confined c.args.calls.now c.args.core.now (g.B.Bus.byte c.args.bus.now)

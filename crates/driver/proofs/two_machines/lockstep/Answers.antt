@@ -1,20 +1,8 @@
 use Rattle.std.proofs.Common.{arith}
 use Rattle.machine.specs.State.{reset_state}
-use Rattle.driver.proofs.Driving.{all_confined, isolated}
+use Rattle.driver.proofs.Driving.{isolated}
 use Rattle.driver.proofs.SoFar.{none_made, one_made, all_made}
 use Rattle.driver.proofs.two_machines.lockstep.Goals as goal
-
-pub returns-in_err-left_answers-clause-left_confined : goal.returns-in_err-left_answers-clause-left_confined
-returns-in_err-left_answers-clause-left_confined g c = all_confined c.args.calls.now reset_state (g.A.Bus.byte c.args.left_bus.now)
-
-pub returns-in_err-left_answers-clause-right_confined : goal.returns-in_err-left_answers-clause-right_confined
-returns-in_err-left_answers-clause-right_confined g c = all_confined c.args.calls.now reset_state (g.B.Bus.byte c.args.right_bus.now)
-
-pub returns-in_err-right_answers-clause-left_confined : goal.returns-in_err-right_answers-clause-left_confined
-returns-in_err-right_answers-clause-left_confined g c = all_confined c.args.calls.now reset_state (g.A.Bus.byte c.args.left_bus.now)
-
-pub returns-in_err-right_answers-clause-right_confined : goal.returns-in_err-right_answers-clause-right_confined
-returns-in_err-right_answers-clause-right_confined g c = all_confined c.args.calls.now reset_state (g.B.Bus.byte c.args.right_bus.now)
 
 pub loop-call-init : goal.loop-call-init
 loop-call-init g c = (
@@ -53,12 +41,6 @@ returns-clause-right g c =
 pub returns-clause-isolated : goal.returns-clause-isolated
 returns-clause-isolated g c =
     isolated c.args.calls.now reset_state (g.A.Bus.byte c.args.left_bus.now) (g.B.Bus.byte c.args.right_bus.now) _ _ (returns-clause-left g c) (returns-clause-right g c)
-
-pub returns-clause-left_confined : goal.returns-clause-left_confined
-returns-clause-left_confined g c = all_confined c.args.calls.now reset_state (g.A.Bus.byte c.args.left_bus.now)
-
-pub returns-clause-right_confined : goal.returns-clause-right_confined
-returns-clause-right_confined g c = all_confined c.args.calls.now reset_state (g.B.Bus.byte c.args.right_bus.now)
 
 pub returns-clause-left_kept : goal.returns-clause-left_kept
 returns-clause-left_kept g c = c.loop-call.invariant.0.kept

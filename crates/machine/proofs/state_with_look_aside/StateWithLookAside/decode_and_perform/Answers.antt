@@ -1,5 +1,5 @@
-use Rattle.machine.proofs.Steps.{obeyed}
-use Rattle.machine.proofs.cached.CachedState.decode_and_perform.Goals as goal
+use Rattle.machine.proofs.StepParts.{obeyed}
+use Rattle.machine.proofs.state_with_look_aside.StateWithLookAside.decode_and_perform.Goals as goal
 
 pub returns-in-Some-clause-value : goal.returns-in-Some-clause-value
 returns-in-Some-clause-value g c =

@@ -1,5 +1,5 @@
 -- One step, as its parts leave it.
-use Rattle.std.proofs.Common.{◌≡◌, ℕ, Bool, true, false, Some, Ok, Err, Result, refl, sym, ap, subst, ◌∙◌}
+use Rattle.std.proofs.Common.{◌≡◌, ℕ, false, Some, Ok, Err, Result, refl, sym, ap, subst, ◌∙◌}
 use Rattle.bus.specs.declared.address.PhysAddr.{PhysAddr}
 use Rattle.bus.specs.declared.refusal.Refusal.{Refusal}
 use Rattle.bus.specs.Memory.{Memory, write_of, answer_of, memory_after}
@@ -20,12 +20,12 @@ use Rattle.machine.specs.declared.answers.StepRefusal.{StepRefusal}
 use Rattle.machine.specs.declared.state.State.{State}
 use Rattle.machine.specs.State.{advanced}
 use Rattle.machine.specs.Access.{locate}
-use Rattle.machine.specs.Accesses.{stored, store_to}
+use Rattle.machine.specs.LoadsAndStores.{stored, store_to}
 use Rattle.machine.specs.Outcomes.{Outcome, outcome, StepAnswer, at_place}
-use Rattle.machine.specs.Execution.{perform, decoded, execute}
+use Rattle.machine.specs.Execution.{perform, decoded}
 use Rattle.machine.specs.Isolation.{LeadsNowhere, FetchesNothing}
-use Rattle.machine.specs.Step.{at_levels, keeps_waiting, awake, by_waiting, act, acted, ended, step}
-use Rattle.machine.proofs.Coming.{Came, raises, goes, supervises, writes, unread, unwritten, execute_came}
+use Rattle.machine.specs.Step.{keeps_waiting, act, acted, ended, step}
+use Rattle.machine.proofs.Ways.{acting, Way, raises, goes, supervises, writes, unread, unwritten, each_way}
 
 pub obeyed : (s : State) (m : Memory) (word : ℕ) (i : Instruction) (a : Action) (o : Outcome StepAnswer) → Some i ≡ decode_of word
     → a ≡ plan s.user s.registers.timer i → o ≡ perform s m a → o ≡ decoded s m (decode_of word)
@@ -48,43 +48,40 @@ record Stays (s : State) (m : Memory) (o : Outcome StepAnswer) : Type 0 where
   state : o.state ≡ s
   memory : o.memory ≡ m
 
-came_stays : (s : State) (m : Memory) (o : Outcome StepAnswer) → Came s m o → (e : StepRefusal) → o.answer ≡ Err e → Stays s m o
-came_stays s m o (raises x) e is = record { state = cc; memory = refl }
-came_stays s m o (goes u link) e is = record { state = cc; memory = refl }
-came_stays s m o (supervises action level) e is = record { state = cc; memory = refl }
-came_stays s m o (writes u link at place w v n wide to put) e is = record { state = cc; memory = cc }
-came_stays s m o (unread k at place w x wide to got) e is = record { state = refl; memory = refl }
-came_stays s m o (unwritten at place w v x wide to put) e is = record { state = refl; memory = refl }
+way_stays : (s : State) (levels : ℕ) (m : Memory) (o : Outcome StepAnswer) → Way s levels m o → (e : StepRefusal) → o.answer ≡ Err e → Stays (acting s levels) m o
+way_stays s levels m o (raises x) e is = record { state = cc; memory = refl }
+way_stays s levels m o (goes u link) e is = record { state = cc; memory = refl }
+way_stays s levels m o (supervises action level) e is = record { state = cc; memory = refl }
+way_stays s levels m o (writes u link place w v n call put) e is = record { state = cc; memory = cc }
+way_stays s levels m o (unread k place w x call got) e is = record { state = refl; memory = refl }
+way_stays s levels m o (unwritten place w v x call put) e is = record { state = refl; memory = refl }
 
-waiting_stays : (waits : Bool) (s : State) (m : Memory) (e : StepRefusal) → (by_waiting waits s m).answer ≡ Err e
-    → Stays (awake s) m (by_waiting waits s m)
-waiting_stays true s m e is = record { state = cc; memory = refl }
-waiting_stays false s m e is = came_stays (awake s) m (execute (awake s) m) (execute_came (awake s) m) e is
-
-act_stays : (s : State) (m : Memory) (e : StepRefusal) → (act s m).answer ≡ Err e → Stays (awake s) m (act s m)
-act_stays s m e is = waiting_stays (keeps_waiting s.activity (due s.registers.interrupts)) s m e is
+acted_stays : (s : State) (levels : ℕ) (m : Memory) (e : StepRefusal) → (acted s levels m).answer ≡ Err e → Stays (acting s levels) m (acted s levels m)
+acted_stays s levels m e is =
+    each_way s levels m (λ o. o.answer ≡ Err e → Stays (acting s levels) m o) (λ told. record { state = cc; memory = refl })
+    (λ o way. way_stays s levels m o way e) is
 
 module _ (s : State) (levels : ℕ) (m : Memory) where
-  pub accepted : (taken : Registers) (e : Event) (t : State) (n : Memory) (after : Registers) → taken ≡ with_levels s.registers levels
+  pub accepted_step : (taken : Registers) (e : Event) (t : State) (n : Memory) (after : Registers) → taken ≡ with_levels s.registers levels
       → outcome (Ok e) t n ≡ act (record s { registers = taken }) m → after ≡ beaten t.registers
       → outcome (Ok e) (record t { registers = after }) n ≡ step s levels m
   unfolding step
-  accepted taken e t n after at is beat =
+  accepted_step taken e t n after at is beat =
       let acts : outcome (Ok e) t n ≡ acted s levels m = is ∙ ap (λ r. act (record s { registers = r }) m) at in
       ap (λ r. outcome (Ok e) (record t { registers = r }) n) beat ∙ ap (λ o. ended s m o.answer o) acts
 
   abbrev restored : State → State
   restored t = record t { registers = with_levels t.registers s.registers.interrupts.pending.hwi; activity = s.activity }
 
-  pub declined : (taken : Registers) (e : StepRefusal) (t : State) (n : Memory) (after : Registers) → taken ≡ with_levels s.registers levels
+  pub refused_step : (taken : Registers) (e : StepRefusal) (t : State) (n : Memory) (after : Registers) → taken ≡ with_levels s.registers levels
       → outcome (Err e) t n ≡ act (record s { registers = taken }) m → after ≡ with_levels t.registers s.registers.interrupts.pending.hwi
       → outcome (Err e) (record t { registers = after; activity = s.activity }) n ≡ step s levels m
   unfolding step
-  declined taken e t n after at is back =
+  refused_step taken e t n after at is back =
       let acts : outcome (Err e) t n ≡ acted s levels m = is ∙ ap (λ r. act (record s { registers = r }) m) at in
       let answers : (acted s levels m).answer ≡ Err e = sym (ap (λ o. o.answer) acts) in
-      let stays = act_stays (at_levels s levels) m e answers in
-      let state : t ≡ awake (at_levels s levels) = ap (λ o. o.state) acts ∙ stays.state in
+      let stays = acted_stays s levels m e answers in
+      let state : t ≡ acting s levels = ap (λ o. o.state) acts ∙ stays.state in
       let memory : n ≡ m = ap (λ o. o.memory) acts ∙ stays.memory in
       ap (λ r. outcome (Err e) (record t { registers = r; activity = s.activity }) n) back
       ∙ ap (λ u. outcome (Err e) (restored u) n) state

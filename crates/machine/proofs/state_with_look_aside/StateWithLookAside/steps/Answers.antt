@@ -1,6 +1,6 @@
 use Rattle.std.proofs.Common.{◌≡◌, Ok, Err, arith, ◌∙◌}
 use Rattle.machine.proofs.Runs.{one_more, cut_short, first_unfetched, later_unfetched, alone}
-use Rattle.machine.proofs.cached.CachedState.steps.Goals as goal
+use Rattle.machine.proofs.state_with_look_aside.StateWithLookAside.steps.Goals as goal
 
 pub returns-in-Err-clause-value : goal.returns-in-Err-clause-value
 returns-in-Err-clause-value g c =

@@ -16,25 +16,25 @@ use std::marker::Model;
 use translation::{direct, translate};
 
 #[derive(Debug, Drop)]
-pub struct CachedState {
-    pub(crate) plain: State,
+pub struct StateWithLookAside {
+    pub(crate) state: State,
     look_aside: LookAside,
 }
 
 // A clause sees the state alone. There is no core whose look-aside is wrong.
-impl Model for CachedState {
+impl Model for StateWithLookAside {
     ghost use Rattle.machine.specs.declared.state.State.{State};
 
     ghost Value = { State };
 
     ghost use Rattle.machine.specs.LookAside.{Agrees};
 
-    ghost view = { λ cached. cached.plain };
+    ghost view = { λ both. both.state };
 
-    ghost invariant = { λ cached. Agrees cached.look_aside cached.plain.registers.mode cached.plain.registers.windows cached.plain.tlb };
+    ghost invariant = { λ both. Agrees both.look_aside both.state.registers.mode both.state.registers.windows both.state.tlb };
 }
 
-impl PartialEq for CachedState {
+impl PartialEq for StateWithLookAside {
     ghost use Rattle.machine.specs.contracts.state.StatePartialEq.TheImpl as by_state;
 
     ghost eq = { by_state.ghosts.eq };
@@ -43,23 +43,23 @@ impl PartialEq for CachedState {
 
     ghost laws = { laws_by_state.lawful.laws };
 
-    fn eq(&self, other: &CachedState) -> bool {
-        self.plain == other.plain
+    fn eq(&self, other: &StateWithLookAside) -> bool {
+        self.state == other.state
     }
 }
 
-impl Eq for CachedState {
+impl Eq for StateWithLookAside {
     ghost use Rattle.machine.specs.contracts.state.StateEq.TheImpl.Laws as laws_by_state;
 
     ghost laws = { laws_by_state.lawful.laws };
 }
 
-impl CachedState {
-    pub(crate) fn new() -> CachedState
+impl StateWithLookAside {
+    pub(crate) fn new() -> StateWithLookAside
         ensures { result ≡ reset_state }
     {
-        CachedState {
-            plain: State::new(),
+        StateWithLookAside {
+            state: State::new(),
             look_aside: LookAside::new(),
         }
     }
@@ -74,7 +74,7 @@ impl CachedState {
         ensures value { result ≡ placed at.0 (translated self.old kind at.0) }
         ensures same { self.new ≡ self.old }
     {
-        let mode = &self.plain.registers.mode;
+        let mode = &self.state.registers.mode;
         match mode.translation {
             TranslationMode::Direct => Ok(direct(mode, kind, at).0),
             TranslationMode::Mapped => self.translate_mapped(kind, at),
@@ -93,16 +93,17 @@ impl CachedState {
         }
     }
 
+    // Apart, so that the way by the look-aside stays short where it is compiled into the step.
     #[inline(never)]
     fn translate_anew(&mut self, kind: AccessKind, at: VirtAddr) -> Result<PhysAddr, Exception>
         ensures value { result ≡ placed at.0 (translated self.old kind at.0) }
         ensures same { self.new ≡ self.old }
     {
-        let registers = &self.plain.registers;
+        let registers = &self.state.registers;
         match translate(
             &registers.mode,
             &registers.windows,
-            &self.plain.tlb,
+            &self.state.tlb,
             kind,
             at,
         ) {
@@ -114,13 +115,13 @@ impl CachedState {
         }
     }
 
-    // An exception changes the mode, so nothing is known of it.
+    // An exception changes the mode, so what was known of translation may no longer be so.
     #[cold]
     pub(crate) fn raise(&mut self, exception: Exception) -> Event
         ensures { settled result self.new ≡ raise self.old exception }
     {
         self.look_aside = LookAside::new();
-        self.plain.raise(exception)
+        self.state.raise(exception)
     }
 
     // What PLV0 alone may do may change all that translation depends on.
@@ -128,6 +129,6 @@ impl CachedState {
         ensures { settled result self.new ≡ by_privilege self.old.registers.mode.plv self.old action }
     {
         self.look_aside = LookAside::new();
-        self.plain.by_privilege(action)
+        self.state.by_privilege(action)
     }
 }

@@ -1,10 +1,9 @@
 use Rattle.std.proofs.Common.{◌≡◌, ◌-◌, Ok}
-use Rattle.machine.specs.Laws.{NoStepFetches}
+use Rattle.machine.specs.Laws.{further, NoStepFetches}
 use Rattle.machine.specs.Outcomes.{outcome}
 use Rattle.machine.specs.Step.{run_of}
-use Rattle.machine.specs.Steps.{Single}
-use Rattle.machine.proofs.Runs.{further}
-use Rattle.machine.proofs.cached.CachedState.steps.Given as goal
+use Rattle.machine.specs.StepLoop.{Single}
+use Rattle.machine.proofs.state_with_look_aside.StateWithLookAside.steps.Given as goal
 
 -- what is left to run from here comes to what the whole run comes to
 abbrev pub invariant-loop-steps : goal.invariant-loop-steps

@@ -14,13 +14,14 @@ use Rattle.machine.specs.declared.state.State.{State}
 use Rattle.machine.specs.State.{advanced, with_result}
 use Rattle.machine.specs.Outcomes.{Outcome, StepAnswer, Settled, unasked, done, raise, refused}
 
--- GR[rd] gets what was read
-abbrev pub loaded : State → Memory → LoadOp → Reg → Result ℕ Refusal → Outcome StepAnswer
-loaded s m op rd (Ok value) = unasked (done (with_result s rd (load_result op value))) m
-loaded s m op rd (Err e) = refused s Load e m
+-- a load that read a value leaves the state `after` of it
+abbrev pub loaded : State → Memory → (ℕ → State) → Result ℕ Refusal → Outcome StepAnswer
+loaded s m after (Ok value) = unasked (done (after value)) m
+loaded s m after (Err e) = refused s Load e m
 
+-- GR[rd] gets what was read
 abbrev pub load_from : State → Memory → LoadOp → Reg → PhysAddr → Outcome StepAnswer
-load_from s m op rd place = loaded s m op rd (read_of m place.0 (load_width op))
+load_from s m op rd place = loaded s m (λ value. with_result s rd (load_result op value)) (read_of m place.0 (load_width op))
 
 -- a store that was done leaves the state `after`
 abbrev pub stored : State → State → Memory → Result Memory Refusal → Outcome StepAnswer
@@ -34,12 +35,8 @@ abbrev pub with_link : State → Bool → State
 with_link s link = record s { registers = record s.registers { link = link } }
 
 -- LL.W: GR[rd] gets what was read, and the link is set
-abbrev pub loaded_linked : State → Memory → Reg → Result ℕ Refusal → Outcome StepAnswer
-loaded_linked s m rd (Ok value) = unasked (done (with_link (with_result s rd value) true)) m
-loaded_linked s m rd (Err e) = refused s Load e m
-
 abbrev pub load_linked_from : State → Memory → Reg → PhysAddr → Outcome StepAnswer
-load_linked_from s m rd place = loaded_linked s m rd (read_of m place.0 4)
+load_linked_from s m rd place = loaded s m (λ value. with_link (with_result s rd value) true) (read_of m place.0 4)
 
 -- GR[rd] gets the link as it was, and the link is cleared
 abbrev pub unlinked : State → Reg → State

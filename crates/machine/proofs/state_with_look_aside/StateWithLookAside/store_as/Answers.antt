@@ -3,8 +3,8 @@ use Rattle.bus.specs.Memory.{write_of, answer_of, memory_after}
 use Rattle.operations.specs.Operations.{store_width}
 use Rattle.pages.specs.declared.access_kind.AccessKind.TheVariants.{Store}
 use Rattle.machine.specs.Access.{locate}
-use Rattle.machine.proofs.Steps.{unstored}
-use Rattle.machine.proofs.cached.CachedState.store_as.Goals as goal
+use Rattle.machine.proofs.StepParts.{unstored}
+use Rattle.machine.proofs.state_with_look_aside.StateWithLookAside.store_as.Goals as goal
 
 pub returns-in-Err-write-clause-value : goal.returns-in-Err-write-clause-value
 returns-in-Err-write-clause-value g c =
