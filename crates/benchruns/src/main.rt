@@ -1,14 +1,14 @@
-//! Makes each run of the set-up on standard input many times, and prints the steps of all. Lines that read a register or have no form are
-//! passed over. For the benchmark.
+//! Makes each run of the set-up on standard input many times, and prints the steps of all. A word is written wherever its line stands;
+//! one that the bus refuses ends the program. Lines that read a register or have no form are passed over. For the benchmark.
 #![tactic(auto)]
 
 use bus::{Access, Bus, PhysAddr};
 use machine::{RunningCore, UnresetCore};
 use parts::Bank;
-use session::{BANK, BANK_BYTES, read_text};
+use session::{BANK_BASE, BANK_BYTES, read_text};
 use setup::{SetupLine, split_line};
 
-// How often each run is made; tools/bench.py counts on it.
+// How often each run is made. tools/bench.py has the same number.
 const TIMES: u32 = 100;
 
 // Makes a run so many times, and gives the steps of all. A refused run makes none.
@@ -25,7 +25,7 @@ fn run_many_times<B: Bus>(core: &mut RunningCore, bus: &mut B, count: u32) -> u6
 fn main(rt: HostRuntime) -> anyhow::Result<()> {
     let text = read_text(rt.alloc(), rt.reader())?;
     let mut memory = [0u8; BANK_BYTES];
-    let mut bank = Bank::new(BANK, &mut memory);
+    let mut bank = Bank::new(BANK_BASE, &mut memory);
     let mut core = UnresetCore.reset();
     let mut steps = 0u64;
     let mut rest = text.as_slice();

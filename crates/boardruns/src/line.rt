@@ -77,17 +77,19 @@ impl PlanLine {
     }
 }
 
-// The levels are the lowest eight bits.
+// The levels of the hardware lines are the lowest eight bits of a word.
+fn levels_of(word: u32) -> u8 {
+    (word % 256) as u8
+}
+
 fn run_call(fields: &[u8]) -> Option<Call> {
-    let (count, levels) = two_numbers(fields)?;
-    Some(Call::Run {
-        count,
-        levels: (levels % 256) as u8,
-    })
+    let (count, word) = two_numbers(fields)?;
+    let levels = levels_of(word);
+    Some(Call::Run { count, levels })
 }
 
 fn step_call(field: &[u8]) -> Option<Call> {
-    let levels = (number(field)? % 256) as u8;
+    let levels = levels_of(number(field)?);
     Some(Call::Step { levels })
 }
 

@@ -6,10 +6,9 @@ use bus::{Access, Bus};
 use layers::{Lock, Shift, Split};
 use machine::{RunningCore, UnresetCore};
 use parts::{Bank, Image, Ports};
+use session::BANK_BYTES;
 use setup::split_line;
 use std::io;
-
-const BANK_BYTES: usize = 32_768;
 
 const IMAGE_BYTES: usize = 4_096;
 

@@ -68,14 +68,14 @@ fn show_report(rt: &HostRuntime, report: &RunReport, core: &RunningCore) -> io::
 // The PC, and what differs from 0 or from what reset leaves.
 pub(crate) fn core(rt: &HostRuntime, core: &RunningCore) -> io::Result<()> {
     println!(rt; "pc {:08X}", core.pc().0)?;
+    show_registers(rt, core)?;
+    show_control_registers(rt, core)?;
+    show_tlb(rt, core)
+}
+
+fn show_registers(rt: &HostRuntime, core: &RunningCore) -> io::Result<()> {
     for number in 0..GENERAL_REGISTERS {
         show_register(rt, core.register(number), number)?;
-    }
-    for number in 0..CONTROL_NUMBERS {
-        show_control(rt, core.control_register(number), number)?;
-    }
-    for number in 0..TLB_ENTRIES {
-        show_entry(rt, core.tlb_entry(number), number)?;
     }
     Ok(())
 }
@@ -87,11 +87,29 @@ fn show_register(rt: &HostRuntime, value: Result<u32, CallRefusal>, number: u32)
     }
 }
 
-fn show_control(rt: &HostRuntime, value: Result<u32, CallRefusal>, number: u32) -> io::Result<()> {
+fn show_control_registers(rt: &HostRuntime, core: &RunningCore) -> io::Result<()> {
+    for number in 0..CONTROL_NUMBERS {
+        show_control_register(rt, core.control_register(number), number)?;
+    }
+    Ok(())
+}
+
+fn show_control_register(
+    rt: &HostRuntime,
+    value: Result<u32, CallRefusal>,
+    number: u32,
+) -> io::Result<()> {
     match value {
         Ok(value) if value != 0 => println!(rt; "csr {number:03X} {value:08X}"),
         _ => Ok(()),
     }
+}
+
+fn show_tlb(rt: &HostRuntime, core: &RunningCore) -> io::Result<()> {
+    for number in 0..TLB_ENTRIES {
+        show_entry(rt, core.tlb_entry(number), number)?;
+    }
+    Ok(())
 }
 
 fn show_entry(rt: &HostRuntime, entry: Result<Entry, CallRefusal>, number: u32) -> io::Result<()> {

@@ -32,10 +32,10 @@ line_size word first second =
     let end : List ℕ = second ++ (10 ∷ []) in
     omega (arith, length-append word (44 ∷ (first ++ (44 ∷ end))), length-append first (44 ∷ end), length-append second (10 ∷ []))
 
-pub line_told : (c0 c1 c2 c3 c4 c5 c6 : Contents) (word first second : List ℕ)
+pub comma_line_told : (c0 c1 c2 c3 c4 c5 c6 : Contents) (word first second : List ℕ)
     → c1 ≡ with_text c0 word → c2 ≡ with_text c1 (codes ",") → c3 ≡ with_text c2 first → c4 ≡ with_text c3 (codes ",") → c5 ≡ with_text c4 second → c6 ≡ with_text c5 (10 ∷ [])
     → c6 ≡ with_text c0 (comma_line word first second)
-line_told c0 c1 c2 c3 c4 c5 c6 word first second e1 e2 e3 e4 e5 e6 =
+comma_line_told c0 c1 c2 c3 c4 c5 c6 word first second e1 e2 e3 e4 e5 e6 =
     let end : List ℕ = second ++ (10 ∷ []) in
     joined c0 c1 c6 word (44 ∷ (first ++ (44 ∷ end))) e1
     (joined c1 c2 c6 (codes ",") (first ++ (44 ∷ end)) e2
@@ -43,26 +43,26 @@ line_told c0 c1 c2 c3 c4 c5 c6 word first second e1 e2 e3 e4 e5 e6 =
     (joined c3 c4 c6 (codes ",") end e4
     (joined c4 c5 c6 second (10 ∷ []) e5 e6))))
 
-bus_number : (r : Refusal) → refusal_number r < 10
-bus_number Misaligned = omega arith
-bus_number (Absent at) = omega arith
-bus_number (Fixed at) = omega arith
+bus_refusal_below_10 : (r : Refusal) → refusal_number r < 10
+bus_refusal_below_10 Misaligned = omega arith
+bus_refusal_below_10 (Absent at) = omega arith
+bus_refusal_below_10 (Fixed at) = omega arith
 
-number : (e : LineRefusal) → line_refusal_number e < 100
-number NoForm = omega arith
-number OutOfPlace = omega arith
-number (Bus r) = omega (arith, bus_number r)
-number (Call NoRegister) = omega arith
-number (Call NoControlRegister) = omega arith
-number (Call NoTlbEntry) = omega arith
-number (Call RunTooLong) = omega arith
-number ListingFull = omega arith
+refusal_below_100 : (e : LineRefusal) → line_refusal_number e < 100
+refusal_below_100 NoForm = omega arith
+refusal_below_100 OutOfPlace = omega arith
+refusal_below_100 (Bus r) = omega (arith, bus_refusal_below_10 r)
+refusal_below_100 (Call NoRegister) = omega arith
+refusal_below_100 (Call NoControlRegister) = omega arith
+refusal_below_100 (Call NoTlbEntry) = omega arith
+refusal_below_100 (Call RunTooLong) = omega arith
+refusal_below_100 ListingFull = omega arith
 
 pub cut_size : (e : StepRefusal) → length (decimal (step_refusal_number e)) ≤ 1
-cut_size e = length-decimal-le 1 (step_refusal_number e) (omega arith) (omega (arith, bus_number e.by_bus)) (omega (arith, bus_number e.by_bus))
+cut_size e = length-decimal-le 1 (step_refusal_number e) (omega arith) (omega (arith, bus_refusal_below_10 e.by_bus)) (omega (arith, bus_refusal_below_10 e.by_bus))
 
 pub refusal_size : (e : LineRefusal) → length (decimal (line_refusal_number e)) ≤ 2
-refusal_size e = length-decimal-le 2 (line_refusal_number e) (omega arith) (omega (arith, number e)) (omega (arith, number e))
+refusal_size e = length-decimal-le 2 (line_refusal_number e) (omega arith) (omega (arith, refusal_below_100 e)) (omega (arith, refusal_below_100 e))
 
 pub report_cut : (line : ℕ) (report : RunReport) (pc : VirtAddr) (e : StepRefusal) (n : ℕ) → report.refusal ≡ Some e → n ≡ step_refusal_number e
     → run_line report.steps pc.0 ++ refusal_line line n ≡ report_lines line report pc

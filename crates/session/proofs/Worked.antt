@@ -49,15 +49,19 @@ listing_on f =
 r4_on : (f : ℕ → ℕ) → register_left (after_lines (fresh (bank_of f)) (lines_of addition_text)) 4 ≡ 0xffffffff
 r4_on f = ap (λ o. register_left (after_lines (ran_to f o).after last_line) 4) (run_loaded f)
 
+-- the bytes of the bank's memory at first
+abbrev zero_bytes : ℕ → ℕ
+zero_bytes k = slice_index (replicate 32768 0) k % 256
+
 -- the length of the bank's memory is known by a lemma, not by counting
-the_bank : board ≡ bank_of (λ k. slice_index (replicate 32768 0) k % 256)
+the_bank : board ≡ bank_of zero_bytes
 the_bank = ap (λ n. part_cells 0x1c000000 n (byte_cell writable (replicate 32768 0))) (length-replicate {A = ℕ} 32768 0)
 
-pub addition_listing : lines_told (fresh board) (lines_of addition_text) ≡ addition_listing_text
-addition_listing = ap (λ m. lines_told (fresh m) (lines_of addition_text)) the_bank ∙ listing_on (λ k. slice_index (replicate 32768 0) k % 256)
+addition_listing : lines_told (fresh board) (lines_of addition_text) ≡ addition_listing_text
+addition_listing = ap (λ m. lines_told (fresh m) (lines_of addition_text)) the_bank ∙ listing_on zero_bytes
 
 pub worked_set_up : WorkedSetUp
 worked_set_up = record {
   listing = addition_listing;
-  r4 = ap (λ m. register_left (after_lines (fresh m) (lines_of addition_text)) 4) the_bank ∙ r4_on (λ k. slice_index (replicate 32768 0) k % 256);
+  r4 = ap (λ m. register_left (after_lines (fresh m) (lines_of addition_text)) 4) the_bank ∙ r4_on zero_bytes;
 }

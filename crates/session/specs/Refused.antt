@@ -16,28 +16,28 @@ use Rattle.session.specs.Answers.{LineResult}
 use Rattle.session.specs.Listings.{Contents, is_full}
 use Rattle.session.specs.Sessions.{Progress, core_to_run, counted}
 
--- the line is this form's
-abbrev pub Is : Form → List ℕ → Type 0
-Is f line = (well_formed f ≡ true) × (line_text f ≡ line)
+-- the line has this form, with these fields
+abbrev pub IsLineOf : Form → List ℕ → Type 0
+IsLineOf f line = (well_formed f ≡ true) × (line_text f ≡ line)
 
 -- a `w` after the first `g`, or an `r` before it
-abbrev pub out_of_place : Form → Stage → Bool
-out_of_place (write address word) (Unreset u) = false
-out_of_place (write address word) (Running s) = true
-out_of_place (run count) stage = false
-out_of_place (register number) (Unreset u) = true
-out_of_place (register number) (Running s) = false
+abbrev pub is_out_of_place : Form → Stage → Bool
+is_out_of_place (write address word) (Unreset u) = false
+is_out_of_place (write address word) (Running s) = true
+is_out_of_place (run count) stage = false
+is_out_of_place (register number) (Unreset u) = true
+is_out_of_place (register number) (Running s) = false
 
 -- why a line is refused, in the order in which refusals come
 pub data Why (p : Progress) (listing : Contents) (line : List ℕ) : LineRefusal → Type 0 where
   full : is_full listing ≡ true → Why p listing line ListingFull
-  no_form : is_full listing ≡ false → ((f : Form) → Is f line → ⊥) → Why p listing line NoForm
-  not_here : (f : Form) → is_full listing ≡ false → Is f line → out_of_place f p.stage ≡ true → Why p listing line OutOfPlace
-  by_bus : (address word : List ℕ) (e : Refusal) → is_full listing ≡ false → Is (write address word) line → out_of_place (write address word) p.stage ≡ false
+  no_form : is_full listing ≡ false → ((f : Form) → IsLineOf f line → ⊥) → Why p listing line NoForm
+  out_of_place : (f : Form) → is_full listing ≡ false → IsLineOf f line → is_out_of_place f p.stage ≡ true → Why p listing line OutOfPlace
+  by_bus : (address word : List ℕ) (e : Refusal) → is_full listing ≡ false → IsLineOf (write address word) line → is_out_of_place (write address word) p.stage ≡ false
       → WriteRule p.memory (hex_value address) 4 (hex_value word) (Err e) p.memory → Why p listing line (Bus e)
-  no_register : (number : List ℕ) → is_full listing ≡ false → Is (register number) line → out_of_place (register number) p.stage ≡ false → 31 < decimal_value number
+  no_register : (number : List ℕ) → is_full listing ≡ false → IsLineOf (register number) line → is_out_of_place (register number) p.stage ≡ false → 31 < decimal_value number
       → Why p listing line (Call NoRegister)
-  too_long : (count : List ℕ) → is_full listing ≡ false → Is (run count) line → most_steps < decimal_value count → Why p listing line (Call RunTooLong)
+  too_long : (count : List ℕ) → is_full listing ≡ false → IsLineOf (run count) line → most_steps < decimal_value count → Why p listing line (Call RunTooLong)
 
 -- a refused line leaves core and memory and is counted, but a run that is too long has reset a core that was never reset, and a line
 -- that found the listing full leaves all as it was

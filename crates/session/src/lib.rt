@@ -12,4 +12,4 @@ pub mod whole_text;
 pub use answer::{LineAnswer, LineRefusal};
 pub use listing::Listing;
 pub use session::Session;
-pub use whole_text::{BANK, BANK_BYTES, MOST_BYTES, print_listing, read_text};
+pub use whole_text::{BANK_BASE, BANK_BYTES, MOST_TEXT_BYTES, print_listing, read_text};

@@ -8,7 +8,7 @@ use machine::RunReport;
 use numerals::{Buffer, decimal_digits, hex_digits};
 use pages::VirtAddr;
 
-// A line of the set-up is read only if as many bytes are free.
+// No line writes more: a run 24 bytes, and the refusal that cuts it short 16. A line is read only if as many are free.
 pub(crate) const ROOM: usize = 40;
 
 impl Listing<'_> {
@@ -87,7 +87,7 @@ impl Listing<'_> {
         );
     }
 
-    // A run that was cut short takes all the room at most: 24 bytes and then 16.
+    // At most 24 bytes for the run and 16 for its refusal.
     fn push_report(&mut self, line: u32, report: RunReport, pc: VirtAddr)
         requires { 40 ≤ length (contents self.old).free }
         ensures contents { contents self.new ≡ with_text (contents self.old) (report_lines line report pc) }

@@ -17,11 +17,12 @@ use std::io;
 use std::io::{Read, Write};
 
 // The most that is read of a text.
-pub const MOST_BYTES: usize = 65_536;
+pub const MOST_TEXT_BYTES: usize = 65_536;
 
-// The bank of a set-up's board.
-pub const BANK: PhysAddr = PhysAddr(0x1c00_0000);
+// Where the bank of a set-up's board begins: at the core's first address after reset.
+pub const BANK_BASE: PhysAddr = PhysAddr(0x1c00_0000);
 
+// How long it is.
 pub const BANK_BYTES: usize = 32_768;
 
 impl<B: Bus> Session<B> {
@@ -55,15 +56,15 @@ pub fn print_listing<W: Write>(text: &[u8], out: &mut W) -> io::Result<()>
     ensures worked { WorkedSetUp }
 {
     let mut memory = [0u8; BANK_BYTES];
-    let mut session = Session::new(Bank::new(BANK, &mut memory));
+    let mut session = Session::new(Bank::new(BANK_BASE, &mut memory));
     session.print(text, out)
 }
 
-// Reads a text, or as much of it as may be one.
+// Reads a text, no more of it than MOST_TEXT_BYTES.
 pub fn read_text<R: Read + Drop>(alloc: Global, input: R) -> io::Result<Vec<u8>>
     ensures { IfOk result (λ text. IfSome (R.remaining input) (λ bytes. text.items ≡ text_read bytes)) }
 {
     let mut text = Vec::new(alloc);
-    input.take(MOST_BYTES as u64).read_to_end(&mut text)?;
+    input.take(MOST_TEXT_BYTES as u64).read_to_end(&mut text)?;
     Ok(text)
 }

@@ -1,6 +1,6 @@
 use Rattle.std.proofs.Common.{arith, codes}
 use Rattle.session.specs.Listings.{contents}
-use Rattle.session.proofs.Told.{line_told, room, line_size}
+use Rattle.session.proofs.Told.{comma_line_told, room, line_size}
 use Rattle.session.proofs.listing.Listing.push_line.Goals as goal
 
 pub push-requires-3 : goal.push-requires-3
@@ -47,6 +47,6 @@ push-requires-6 c = omega (
 
 pub returns-clause-contents : goal.returns-clause-contents
 returns-clause-contents c =
-    line_told (contents c.args.self.now) (contents c.push.new.self) (contents c.push-2.new.self) (contents c.push-3.new.self) (contents c.push-4.new.self) (contents c.push-5.new.self) (contents c.push-6.new.self)
+    comma_line_told (contents c.args.self.now) (contents c.push.new.self) (contents c.push-2.new.self) (contents c.push-3.new.self) (contents c.push-4.new.self) (contents c.push-5.new.self) (contents c.push-6.new.self)
     c.args.name.now c.args.first.now c.args.second.now
     c.push.ensures.contents c.push-2.ensures.contents c.push-3.ensures.contents c.push-4.ensures.contents c.push-5.ensures.contents c.push-6.ensures.contents
