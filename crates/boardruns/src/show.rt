@@ -4,14 +4,12 @@ use driver::Answer;
 use machine::{CallRefusal, Event, RunReport, RunningCore, StepRefusal};
 use pages::Half;
 use std::io;
-use tlb::Entry;
+use tlb::{ENTRIES, Entry};
 
 const GENERAL_REGISTERS: u32 = 32;
 
 // Control registers have numbers of 14 bits.
 const CONTROL_NUMBERS: u32 = 0x4000;
-
-const TLB_ENTRIES: u32 = 16;
 
 pub(crate) fn write(rt: &HostRuntime, answer: Result<(), Refusal>) -> io::Result<()> {
     match answer {
@@ -106,7 +104,7 @@ fn show_control_register(
 }
 
 fn show_tlb(rt: &HostRuntime, core: &RunningCore) -> io::Result<()> {
-    for number in 0..TLB_ENTRIES {
+    for number in 0..ENTRIES as u32 {
         show_entry(rt, core.tlb_entry(number), number)?;
     }
     Ok(())

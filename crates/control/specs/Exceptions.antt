@@ -1,5 +1,5 @@
 -- What an exception, a return, the lines' levels and the beat do to the control registers.
-use Rattle.std.specs.Prelude.{ℕ, ◌*◌, ◌^◌, Bool, true, false, cond, ◌&&◌, unwrap_or}
+use Rattle.std.specs.Prelude.{ℕ, Bool, true, false, cond, ◌&&◌, unwrap_or}
 use Rattle.pages.specs.declared.address.VirtAddr.{VirtAddr}
 use Rattle.csr.specs.declared.exception.Cause.{Cause}
 use Rattle.csr.specs.declared.exception.Exception.{Exception}
@@ -9,10 +9,12 @@ use Rattle.csr.specs.Mode.{handler_mode, returned_mode}
 use Rattle.csr.specs.Interrupts.{due}
 use Rattle.csr.specs.Timer.{after_beat, runs_out}
 use Rattle.control.specs.declared.registers.Registers.{Registers}
+use Rattle.control.specs.declared.number.Csr.TheVariants.{Eentry, Tlbrentry}
+use Rattle.control.specs.Registers.{read_of, with_ti}
 
 -- a refill's handler is at TLBRENTRY, any other's at EENTRY
 abbrev pub handler : Registers → Cause → VirtAddr
-handler r cause = record { 0 = cond (is_refill cause) r.tlbrentry r.eentry * 2 ^ 6 }
+handler r cause = record { 0 = cond (is_refill cause) (read_of r Tlbrentry) (read_of r Eentry) }
 
 abbrev pub raised : Registers → Exception → VirtAddr → Registers
 raised r exception pc = record r {
@@ -40,8 +42,8 @@ abbrev pub interrupted : Registers → Bool
 interrupted r = r.mode.ie && due r.interrupts
 
 -- a timer that runs out sets IS[11]
-abbrev pub after_timer : Interrupts → Bool → Interrupts
-after_timer i out = record i { pending = record i.pending { ti = cond out true i.pending.ti } }
-
-abbrev pub beaten : Registers → Registers
-beaten r = record r { timer = after_beat r.timer; interrupts = after_timer r.interrupts (runs_out r.timer) }
+abbrev pub registers_after_beat : Registers → Registers
+registers_after_beat r = record r {
+  timer = after_beat r.timer;
+  interrupts = with_ti r.interrupts (cond (runs_out r.timer) true r.interrupts.pending.ti);
+}

@@ -12,8 +12,8 @@ use Rattle.control.specs.Registers.{pgd, read_of}
 abbrev pub Row : Type 0
 Row = ℕ × ℕ × (ℕ → ℕ → ℕ)
 
-abbrev pub any : ℕ → ℕ → ℕ
-any old new = new
+abbrev pub read_write : ℕ → ℕ → ℕ
+read_write old new = new
 
 abbrev pub read_only : ℕ → ℕ → ℕ
 read_only old new = old
@@ -40,40 +40,40 @@ abbrev pub link_bits : ℕ → ℕ → ℕ
 link_bits old new = cond (flag new 1) 0 old
 
 abbrev pub tlbelo_rows : List Row
-tlbelo_rows = (0, 0, any) ∷ (1, 1, any) ∷ (3, 2, any) ∷ (5, 4, any) ∷ (6, 6, any) ∷ (27, 8, any) ∷ []
+tlbelo_rows = (0, 0, read_write) ∷ (1, 1, read_write) ∷ (3, 2, read_write) ∷ (5, 4, read_write) ∷ (6, 6, read_write) ∷ (27, 8, read_write) ∷ []
 
 abbrev pub dmw_rows : List Row
-dmw_rows = (0, 0, any) ∷ (3, 3, any) ∷ (5, 4, any) ∷ (27, 25, any) ∷ (31, 29, any) ∷ []
+dmw_rows = (0, 0, read_write) ∷ (3, 3, read_write) ∷ (5, 4, read_write) ∷ (27, 25, read_write) ∷ (31, 29, read_write) ∷ []
 
 -- bits of no row read 0
 abbrev pub rows : Csr → List Row
-rows Crmd = (1, 0, privilege) ∷ (2, 2, any) ∷ (4, 3, mode_bits) ∷ (6, 5, any) ∷ (8, 7, any) ∷ []
-rows Prmd = (1, 0, privilege) ∷ (2, 2, any) ∷ []
+rows Crmd = (1, 0, privilege) ∷ (2, 2, read_write) ∷ (4, 3, mode_bits) ∷ (6, 5, read_write) ∷ (8, 7, read_write) ∷ []
+rows Prmd = (1, 0, privilege) ∷ (2, 2, read_write) ∷ []
 rows Euen = []
-rows Ecfg = (9, 0, any) ∷ (12, 11, any) ∷ []
-rows Estat = (1, 0, any) ∷ (9, 2, read_only) ∷ (11, 11, read_only) ∷ (21, 16, read_only) ∷ (30, 22, read_only) ∷ []
-rows Era = (31, 0, any) ∷ []
-rows Badv = (31, 0, any) ∷ []
-rows Eentry = (31, 6, any) ∷ []
-rows Tlbidx = (3, 0, any) ∷ (29, 24, page_size) ∷ (31, 31, any) ∷ []
-rows Tlbehi = (31, 13, any) ∷ []
+rows Ecfg = (9, 0, read_write) ∷ (12, 11, read_write) ∷ []
+rows Estat = (1, 0, read_write) ∷ (9, 2, read_only) ∷ (11, 11, read_only) ∷ (21, 16, read_only) ∷ (30, 22, read_only) ∷ []
+rows Era = (31, 0, read_write) ∷ []
+rows Badv = (31, 0, read_write) ∷ []
+rows Eentry = (31, 6, read_write) ∷ []
+rows Tlbidx = (3, 0, read_write) ∷ (29, 24, page_size) ∷ (31, 31, read_write) ∷ []
+rows Tlbehi = (31, 13, read_write) ∷ []
 rows Tlbelo0 = tlbelo_rows
 rows Tlbelo1 = tlbelo_rows
-rows Asid = (9, 0, any) ∷ (23, 16, read_only) ∷ []
-rows Pgdl = (31, 12, any) ∷ []
-rows Pgdh = (31, 12, any) ∷ []
+rows Asid = (9, 0, read_write) ∷ (23, 16, read_only) ∷ []
+rows Pgdl = (31, 12, read_write) ∷ []
+rows Pgdh = (31, 12, read_write) ∷ []
 rows Pgd = (31, 12, read_only) ∷ []
 rows Cpuid = []
-rows Save0 = (31, 0, any) ∷ []
-rows Save1 = (31, 0, any) ∷ []
-rows Save2 = (31, 0, any) ∷ []
-rows Save3 = (31, 0, any) ∷ []
-rows Tid = (31, 0, any) ∷ []
-rows Tcfg = (0, 0, any) ∷ (1, 1, any) ∷ (31, 2, any) ∷ []
+rows Save0 = (31, 0, read_write) ∷ []
+rows Save1 = (31, 0, read_write) ∷ []
+rows Save2 = (31, 0, read_write) ∷ []
+rows Save3 = (31, 0, read_write) ∷ []
+rows Tid = (31, 0, read_write) ∷ []
+rows Tcfg = (0, 0, read_write) ∷ (1, 1, read_write) ∷ (31, 2, read_write) ∷ []
 rows Tval = (31, 0, read_only) ∷ []
 rows Ticlr = []
 rows Llbctl = (1, 0, link_bits) ∷ []
-rows Tlbrentry = (31, 6, any) ∷ []
+rows Tlbrentry = (31, 6, read_write) ∷ []
 rows Ctag = []
 rows Dmw0 = dmw_rows
 rows Dmw1 = dmw_rows
@@ -87,7 +87,9 @@ abbrev pub read_back : List Row → ℕ → ℕ → ℕ
 read_back [] old word = 0
 read_back (row ∷ rest) old word = row_after row old word + read_back rest old word
 
--- of registers whose fields a write may leave: those fields fit the bits that the rows give them
+-- needed where a write leaves a field as it was (PS, IS, Ecode, ASIDBITS, PGD's Base): the old word shows that field only if the parts
+-- of the word have no more bits than their rows. A record does not show that its numbers fit their widths; a value that was read does,
+-- and the law of reading back needs it.
 abbrev pub ReadFits : Registers → Csr → Type 0
 ReadFits r Estat = PendingFits r.interrupts.pending × (ecode r.cause < 2 ^ 6)
 ReadFits r Tlbidx = r.tlb_registers.index < 2 ^ 4

@@ -4,8 +4,8 @@ use Rattle.pages.specs.declared.address.Frame.{Frame}
 use Rattle.csr.specs.declared.interrupts.Interrupts.{Interrupts}
 use Rattle.csr.specs.Words.{bit, flag, field}
 use Rattle.csr.specs.Exceptions.{ecode, esubcode}
-use Rattle.csr.specs.Mode.{crmd, with_crmd, asid, with_asid, prmd, with_prmd}
-use Rattle.csr.specs.Interrupts.{is_bits, with_swi, lie_bits, enabled_of}
+use Rattle.csr.specs.Mode.{crmd, with_crmd, asid_word, with_asid, prmd, with_prmd}
+use Rattle.csr.specs.Interrupts.{pending_bits, with_swi, enabled_bits, enabled_of}
 use Rattle.csr.specs.Timer.{tcfg, with_tcfg}
 use Rattle.csr.specs.Window.{dmw, dmw_of}
 use Rattle.csr.specs.TlbRegisters.{tlbelo, tlbelo_of, tlbidx, with_tlbidx, tlbehi, with_tlbehi}
@@ -19,13 +19,13 @@ pgd r = cond (r.badv.0 / 2 ^ 31 == 0) r.pgdl r.pgdh
 
 -- IS 12:0, Ecode 21:16, EsubCode 30:22
 abbrev pub estat : Registers → ℕ
-estat r = is_bits r.interrupts.pending + ecode r.cause * 2 ^ 16 + esubcode r.cause * 2 ^ 22
+estat r = pending_bits r.interrupts.pending + ecode r.cause * 2 ^ 16 + esubcode r.cause * 2 ^ 22
 
 abbrev pub read_of : Registers → Csr → ℕ
 read_of r Crmd = crmd r.mode
 read_of r Prmd = prmd r.previous
 read_of r Euen = 0
-read_of r Ecfg = lie_bits r.interrupts.enabled
+read_of r Ecfg = enabled_bits r.interrupts.enabled
 read_of r Estat = estat r
 read_of r Era = r.era.0
 read_of r Badv = r.badv.0
@@ -34,7 +34,7 @@ read_of r Tlbidx = tlbidx r.tlb_registers
 read_of r Tlbehi = tlbehi r.tlb_registers
 read_of r Tlbelo0 = tlbelo r.tlb_registers.elo0
 read_of r Tlbelo1 = tlbelo r.tlb_registers.elo1
-read_of r Asid = asid r.mode
+read_of r Asid = asid_word r.mode
 read_of r Pgdl = r.pgdl.0 * 2 ^ 12
 read_of r Pgdh = r.pgdh.0 * 2 ^ 12
 read_of r Pgd = (pgd r).0 * 2 ^ 12
@@ -53,12 +53,12 @@ read_of r Ctag = 0
 read_of r Dmw0 = dmw r.windows.dmw0
 read_of r Dmw1 = dmw r.windows.dmw1
 
-abbrev pub cleared_timer : Interrupts → Bool → Interrupts
-cleared_timer i clr = record i { pending = record i.pending { ti = cond clr false i.pending.ti } }
+abbrev pub with_ti : Interrupts → Bool → Interrupts
+with_ti i ti = record i { pending = record i.pending { ti = ti } }
 
 -- writing 1 to CLR clears the timer's interrupt
 abbrev pub with_ticlr : Registers → ℕ → Registers
-with_ticlr r word = record r { interrupts = cleared_timer r.interrupts (flag word 0) }
+with_ticlr r word = record r { interrupts = with_ti r.interrupts (cond (flag word 0) false r.interrupts.pending.ti) }
 
 -- writing 1 to WCLLB clears the link
 abbrev pub with_llbctl : Registers → ℕ → Registers

@@ -22,8 +22,8 @@ reset_mode = record { plv = Plv0; ie = false; translation = Direct; datf = 0; da
 abbrev pub reset_interrupts : Interrupts
 reset_interrupts = record { pending = record { swi = 0; hwi = 0; ti = false }; enabled = enabled_of 0 }
 
-abbrev pub reset_tlb : TlbRegisters
-reset_tlb = record { index = 0; ps = Small; ne = false; vppn = 0; elo0 = tlbelo_of 0; elo1 = tlbelo_of 0 }
+abbrev pub reset_tlb_registers : TlbRegisters
+reset_tlb_registers = record { index = 0; ps = Small; ne = false; vppn = 0; elo0 = tlbelo_of 0; elo1 = tlbelo_of 0 }
 
 abbrev pub reset_timer : Timer
 reset_timer = record { counter = 0; tid = 0; en = false; periodic = false; init_val = 0; tval = 0 }
@@ -38,7 +38,7 @@ reset_registers = record {
   badv = record { 0 = 0 };
   eentry = 0;
   tlbrentry = 0;
-  tlb_registers = reset_tlb;
+  tlb_registers = reset_tlb_registers;
   pgdl = record { 0 = 0 };
   pgdh = record { 0 = 0 };
   save0 = 0;

@@ -1,10 +1,11 @@
 -- What the TLB's instructions read of the registers and leave in them.
-use Rattle.std.specs.Prelude.{ℕ, ◌*◌, ◌^◌, true, false, cond, not, ◌&&◌, ◌||◌, Option, Some, None}
+use Rattle.std.specs.Prelude.{ℕ, true, false, cond, not, ◌&&◌, ◌||◌, Option, Some, None}
 use Rattle.tlb.specs.declared.entry.Entry.{Entry}
 use Rattle.tlb.specs.declared.table.Tlb.{Tlb}
 use Rattle.tlb.specs.Searching.{find}
 use Rattle.csr.specs.declared.tlb_registers.TlbRegisters.{TlbRegisters}
 use Rattle.csr.specs.Exceptions.{is_refill}
+use Rattle.csr.specs.TlbRegisters.{tlbehi}
 use Rattle.control.specs.declared.registers.Registers.{Registers}
 
 -- TLBWR and TLBFILL: E is 1 if NE is 0 or a refill is being handled, G if both G are 1
@@ -24,8 +25,8 @@ abbrev pub tlb_found : TlbRegisters → Option ℕ → TlbRegisters
 tlb_found t (Some i) = record t { index = i; ne = false }
 tlb_found t None = record t { ne = true }
 
-abbrev pub searched : Registers → Tlb → Registers
-searched r tlb = record r { tlb_registers = tlb_found r.tlb_registers (find tlb (r.tlb_registers.vppn * 2 ^ 13) r.mode.asid) }
+abbrev pub tlbsrch : Registers → Tlb → Registers
+tlbsrch r tlb = record r { tlb_registers = tlb_found r.tlb_registers (find tlb (tlbehi r.tlb_registers) r.mode.asid) }
 
 -- TLBRD: an entry that exists gives its pages, their size and NE 0; an empty one sets NE and nothing else
 abbrev pub tlb_read : TlbRegisters → Entry → TlbRegisters
@@ -40,5 +41,5 @@ tlb_read t e = cond e.exists
     })
     (record t { ne = true })
 
-abbrev pub entry_read : Registers → Entry → Registers
-entry_read r e = record r { tlb_registers = tlb_read r.tlb_registers e }
+abbrev pub tlbrd : Registers → Entry → Registers
+tlbrd r e = record r { tlb_registers = tlb_read r.tlb_registers e }

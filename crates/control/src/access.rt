@@ -10,7 +10,7 @@ use pages::{Bits, Frame, VirtAddr};
 
 impl Registers {
     // The directory for the half of the address space in which BADV lies.
-    fn pgd_frame(&self) -> Frame
+    fn pgd(&self) -> Frame
         ensures { result ≡ pgd self.now }
     {
         if self.badv.0 >> 31 == 0 {
@@ -20,18 +20,20 @@ impl Registers {
         }
     }
 
-    fn pgd(&self) -> u32
+    fn pgd_word(&self) -> u32
         ensures value { result ≡ read_of self.now Csr.Pgd }
         ensures fits { ReadFits self.now Csr.Pgd }
     {
-        self.pgd_frame().0.value() << 12
+        self.pgd().0.value() << 12
     }
 
     fn estat(&self) -> u32
         ensures value { result ≡ estat self.now }
         ensures fits { ReadFits self.now Csr.Estat }
     {
-        self.interrupts.pending.is_bits() | self.cause.ecode() << 16 | self.cause.esubcode() << 22
+        self.interrupts.pending.pending_bits()
+            | self.cause.ecode() << 16
+            | self.cause.esubcode() << 22
     }
 
     // Writing 1 to CLR clears the timer's interrupt.
@@ -59,7 +61,7 @@ impl Registers {
         match csr {
             Csr::Crmd => self.mode.crmd(),
             Csr::Prmd => self.previous.prmd(),
-            Csr::Ecfg => self.interrupts.enabled.lie_bits(),
+            Csr::Ecfg => self.interrupts.enabled.enabled_bits(),
             Csr::Estat => self.estat(),
             Csr::Era => self.era.0,
             Csr::Badv => self.badv.0,
@@ -68,10 +70,10 @@ impl Registers {
             Csr::Tlbehi => self.tlb_registers.tlbehi(),
             Csr::Tlbelo0 => self.tlb_registers.elo0.tlbelo(),
             Csr::Tlbelo1 => self.tlb_registers.elo1.tlbelo(),
-            Csr::Asid => self.mode.asid(),
+            Csr::Asid => self.mode.asid_word(),
             Csr::Pgdl => self.pgdl.0.value() << 12,
             Csr::Pgdh => self.pgdh.0.value() << 12,
-            Csr::Pgd => self.pgd(),
+            Csr::Pgd => self.pgd_word(),
             Csr::Save0 => self.save0,
             Csr::Save1 => self.save1,
             Csr::Save2 => self.save2,
@@ -87,13 +89,13 @@ impl Registers {
         }
     }
 
-    pub fn write(&mut self, csr: Csr, word: u32)
+    pub(crate) fn write(&mut self, csr: Csr, word: u32)
         ensures { self.new ≡ written self.old csr word }
     {
         match csr {
             Csr::Crmd => self.mode.set_crmd(word),
             Csr::Prmd => self.previous.set_prmd(word),
-            Csr::Ecfg => self.interrupts.enabled = Enabled::of_lie_bits(word),
+            Csr::Ecfg => self.interrupts.enabled = Enabled::of_enabled_bits(word),
             Csr::Estat => self.interrupts.pending.set_swi(word),
             Csr::Era => self.era = VirtAddr(word),
             Csr::Badv => self.badv = VirtAddr(word),

@@ -1,7 +1,7 @@
 // Exceptions and the return from one, interrupts, and the beat that ends a step.
 ghost use Rattle.std.specs.Prelude.{◌≡◌};
 ghost use Rattle.csr.specs.Exceptions.{cause_of};
-ghost use Rattle.control.specs.Exceptions.{handler, raised, returned, with_levels, interrupted, beaten};
+ghost use Rattle.control.specs.Exceptions.{handler, raised, returned, with_levels, interrupted, registers_after_beat};
 
 use crate::registers::Registers;
 use csr::{Cause, Exception, PreviousMode};
@@ -48,7 +48,7 @@ impl Registers {
         self.era
     }
 
-    // The levels of the eight hardware lines.
+    // ESTAT.IS[9:2] follows the levels of the eight hardware lines.
     pub fn take_levels(&mut self, levels: u8)
         ensures { self.new ≡ with_levels self.old levels }
     {
@@ -63,7 +63,7 @@ impl Registers {
     }
 
     pub fn beat(&mut self)
-        ensures { self.new ≡ beaten self.old }
+        ensures { self.new ≡ registers_after_beat self.old }
     {
         if self.timer.beat() {
             self.interrupts.pending.ti = true;

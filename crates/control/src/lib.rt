@@ -1,4 +1,4 @@
-//! The control registers by number, exceptions and returns, interrupts and the timer, and what TLB instructions do to the registers.
+//! The control registers by number, exceptions and returns, interrupts and the timer, and the TLB's instructions.
 #![tactic(auto)]
 
 mod access;

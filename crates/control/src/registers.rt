@@ -25,7 +25,7 @@ pub struct Registers {
     pub save1: u32,
     pub save2: u32,
     pub save3: u32,
-    // TID, TCFG, TVAL.
+    // TID, TCFG, TVAL, and the counter of 64 bits, which is no control register.
     pub timer: Timer,
     pub windows: Windows,
     // LLBCTL's ROLLB.

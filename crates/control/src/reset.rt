@@ -1,6 +1,6 @@
 // The control registers as reset leaves them.
 ghost use Rattle.std.specs.Prelude.{◌≡◌};
-ghost use Rattle.control.specs.Reset.{reset_mode, reset_interrupts, reset_tlb, reset_timer, reset_registers, ReadsAsReset};
+ghost use Rattle.control.specs.Reset.{reset_mode, reset_interrupts, reset_tlb_registers, reset_timer, reset_registers, ReadsAsReset};
 
 use crate::registers::Registers;
 use csr::{
@@ -31,12 +31,12 @@ fn reset_interrupts() -> Interrupts
             hwi: 0,
             ti: false,
         },
-        enabled: Enabled::of_lie_bits(0),
+        enabled: Enabled::of_enabled_bits(0),
     }
 }
 
-fn reset_tlb() -> TlbRegisters
-    ensures { result ≡ reset_tlb }
+fn reset_tlb_registers() -> TlbRegisters
+    ensures { result ≡ reset_tlb_registers }
 {
     TlbRegisters {
         index: Bits::of_low_bits(0),
@@ -80,7 +80,7 @@ impl Registers {
             badv: VirtAddr(0),
             eentry: Bits::of_low_bits(0),
             tlbrentry: Bits::of_low_bits(0),
-            tlb_registers: reset_tlb(),
+            tlb_registers: reset_tlb_registers(),
             pgdl: Frame::of_low_bits(0),
             pgdh: Frame::of_low_bits(0),
             save0: 0,

@@ -1,7 +1,7 @@
 // TLBSRCH, TLBRD, TLBWR and TLBFILL.
 ghost use Rattle.std.specs.Prelude.{◌≡◌};
 ghost use Rattle.tlb.specs.Searching.{entry, written, filled};
-ghost use Rattle.control.specs.TlbInstructions.{entry_to_write, searched, entry_read};
+ghost use Rattle.control.specs.TlbInstructions.{entry_to_write, tlbsrch, tlbrd};
 
 use crate::registers::Registers;
 use csr::{TlbLow, TlbRegisters};
@@ -26,9 +26,9 @@ impl Registers {
 
     // TLBSRCH
     pub fn tlbsrch(&mut self, tlb: &Tlb)
-        ensures { self.new ≡ searched self.old tlb.now }
+        ensures { self.new ≡ tlbsrch self.old tlb.now }
     {
-        let at = VirtAddr(self.tlb_registers.vppn.value() << 13);
+        let at = VirtAddr(self.tlb_registers.tlbehi());
         match tlb.find(at, self.mode.asid) {
             Some(index) => {
                 self.tlb_registers.index = index;
@@ -40,7 +40,7 @@ impl Registers {
 
     // TLBRD: ASID is not written, and an empty entry sets NE alone.
     pub fn tlbrd(&mut self, tlb: &Tlb)
-        ensures { self.new ≡ entry_read self.old (entry tlb.now self.old.tlb_registers.index) }
+        ensures { self.new ≡ tlbrd self.old (entry tlb.now self.old.tlb_registers.index) }
     {
         let entry = tlb.entry(self.tlb_registers.index);
         if !entry.exists {

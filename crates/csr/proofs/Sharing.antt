@@ -3,7 +3,7 @@ use Rattle.std.proofs.Common.{◌≡◌, ℕ, ◌+◌, ◌*◌, ◌^◌, ◌<◌
 use Rattle.std.proofs.lemmas.Nat.{and_block}
 use Rattle.csr.specs.declared.interrupts.Interrupts.{Interrupts}
 use Rattle.csr.specs.Words.{bit}
-use Rattle.csr.specs.Interrupts.{is_bits, lie_bits}
+use Rattle.csr.specs.Interrupts.{pending_bits, enabled_bits}
 
 -- the highest groups: the timer's bit, and one of LIE alone
 timers : (t u i : Bool) → bit_and (bit t) (bit u + bit i * 2) ≡ bit t * bit u
@@ -31,7 +31,7 @@ shared_parts s h t r g u i s_fits h_fits r_fits g_fits =
 
 pub shared_groups : (i : Interrupts)
     → i.pending.swi < 2 ^ 2 → i.pending.hwi < 2 ^ 8 → i.enabled.swi < 2 ^ 2 → i.enabled.hwi < 2 ^ 8
-    → bit_and (is_bits i.pending) (lie_bits i.enabled)
+    → bit_and (pending_bits i.pending) (enabled_bits i.enabled)
     ≡ bit i.pending.ti * bit i.enabled.ti * 2 ^ 11 + bit_and i.pending.hwi i.enabled.hwi * 2 ^ 2
     + bit_and i.pending.swi i.enabled.swi
 shared_groups i =

@@ -49,22 +49,12 @@ cause_of Ipe = cause.Ipe
 
 -- BADV is set by a wrong PC, a misaligned address and a fault of a page
 abbrev pub bad_address : Exception → VirtAddr → Option VirtAddr
-bad_address Int pc = None
 bad_address Adef pc = Some pc
 bad_address (Ale at) pc = Some at
 bad_address (Page fault at) pc = Some at
-bad_address Sys pc = None
-bad_address Brk pc = None
-bad_address Ine pc = None
-bad_address Ipe pc = None
+bad_address _ pc = None
 
 -- a fault of a page sets TLBEHI's VPPN to the address's bits 31:13
 abbrev pub faulting_page : Exception → Option ℕ
-faulting_page Int = None
-faulting_page Adef = None
-faulting_page (Ale at) = None
 faulting_page (Page fault at) = Some (at.0 / 2 ^ 13)
-faulting_page Sys = None
-faulting_page Brk = None
-faulting_page Ine = None
-faulting_page Ipe = None
+faulting_page _ = None

@@ -33,8 +33,8 @@ with_crmd m word = record m {
 }
 
 -- ASID: ASID 9:0, ASIDBITS 23:16
-abbrev pub asid : Mode → ℕ
-asid m = m.asid + 10 * 2 ^ 16
+abbrev pub asid_word : Mode → ℕ
+asid_word m = m.asid + 10 * 2 ^ 16
 
 abbrev pub with_asid : Mode → ℕ → Mode
 with_asid m word = record m { asid = field word 0 10 }

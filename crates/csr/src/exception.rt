@@ -77,7 +77,7 @@ impl Cause {
         self == Cause::Tlbr
     }
 
-    // The one cause with another second code, a wrong address of a load or store, never comes.
+    // Only ADEM, a wrong data address, has EsubCode 1, and no data address is wrong here.
     pub fn esubcode(self) -> u32
         ensures { result ≡ esubcode self }
     {
@@ -86,7 +86,7 @@ impl Cause {
 }
 
 impl PageFault {
-    pub fn cause(self) -> Cause
+    pub(crate) fn cause(self) -> Cause
         ensures { result ≡ fault_cause self }
     {
         match self {
@@ -127,7 +127,7 @@ impl Exception {
         }
     }
 
-    // What it writes to TLBEHI.
+    // What it writes to TLBEHI's VPPN.
     pub fn faulting_page(self) -> Option<Vppn>
         ensures { result ≡ faulting_page self }
     {

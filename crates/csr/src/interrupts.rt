@@ -1,6 +1,6 @@
 // Interrupts: which are pending (ESTAT.IS), and which are enabled one by one (ECFG.LIE).
 ghost use Rattle.std.specs.Prelude.{◌≡◌};
-ghost use Rattle.csr.specs.Interrupts.{is_bits, PendingFits, lie_bits, with_swi, enabled_of, due};
+ghost use Rattle.csr.specs.Interrupts.{pending_bits, PendingFits, enabled_bits, with_swi, enabled_of, due};
 
 use crate::words::flag;
 use pages::Bits;
@@ -28,8 +28,8 @@ pub struct Interrupts {
 }
 
 impl Pending {
-    pub fn is_bits(&self) -> u32
-        ensures value { result ≡ is_bits self.now }
+    pub fn pending_bits(&self) -> u32
+        ensures value { result ≡ pending_bits self.now }
         ensures fits { PendingFits self.now }
     {
         self.swi.value() | u32::from(self.hwi) << 2 | u32::from(self.ti) << 11
@@ -44,8 +44,8 @@ impl Pending {
 }
 
 impl Enabled {
-    pub fn lie_bits(&self) -> u32
-        ensures { result ≡ lie_bits self.now }
+    pub fn enabled_bits(&self) -> u32
+        ensures { result ≡ enabled_bits self.now }
     {
         self.swi.value()
             | u32::from(self.hwi) << 2
@@ -53,7 +53,7 @@ impl Enabled {
             | u32::from(self.ipi) << 12
     }
 
-    pub fn of_lie_bits(word: u32) -> Enabled
+    pub fn of_enabled_bits(word: u32) -> Enabled
         ensures { result ≡ enabled_of word }
     {
         Enabled {

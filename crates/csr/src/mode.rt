@@ -1,11 +1,11 @@
 // The mode in which the processor runs: CRMD, and ASID.
 ghost use Rattle.std.specs.Prelude.{◌≡◌, ◌^◌, ◌<◌};
-ghost use Rattle.csr.specs.Mode.{da_pg, da_pg_written, crmd, with_crmd, asid, with_asid, handler_mode, returned_mode};
+ghost use Rattle.csr.specs.Mode.{da_pg, da_pg_written, crmd, with_crmd, asid_word, with_asid, handler_mode, returned_mode};
 
 use crate::exception::Cause;
 use crate::previous::PreviousMode;
 use crate::words::flag;
-use pages::{AccessType, Asid, Bits, Privilege};
+use pages::{ASID_BITS, AccessType, Asid, Bits, Privilege};
 
 // CRMD's DA and PG: 1 and 0, or 0 and 1.
 #[derive(Clone, Copy, PartialEq, Eq, Debug)]
@@ -26,7 +26,7 @@ pub struct Mode {
 
 impl TranslationMode {
     // PG and DA as a number of two bits.
-    pub fn number(self) -> u32
+    pub(crate) fn number(self) -> u32
         ensures { result ≡ da_pg self }
     {
         match self {
@@ -36,7 +36,7 @@ impl TranslationMode {
     }
 
     // What DA and PG hold after that number was written to them.
-    pub fn written(self, number: u32) -> TranslationMode
+    pub(crate) fn written(self, number: u32) -> TranslationMode
         ensures { result ≡ da_pg_written self number }
     {
         match number {
@@ -68,11 +68,11 @@ impl Mode {
         self.datm = Bits::of_low_bits(word >> 7);
     }
 
-    pub fn asid(&self) -> u32
-        ensures value { result ≡ asid self.now }
+    pub fn asid_word(&self) -> u32
+        ensures value { result ≡ asid_word self.now }
         ensures fits { self.now.asid < 2 ^ 10 }
     {
-        self.asid.value() | 10 << 16
+        self.asid.value() | ASID_BITS << 16
     }
 
     pub fn set_asid(&mut self, word: u32)

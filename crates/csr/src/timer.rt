@@ -1,6 +1,6 @@
 // The timer (TID, TCFG, TVAL), and the counter that programs read as the time.
-ghost use Rattle.std.specs.Prelude.{◌≡◌, ◌*◌};
-ghost use Rattle.csr.specs.Timer.{tcfg, with_tcfg, after_beat, runs_out};
+ghost use Rattle.std.specs.Prelude.{◌≡◌};
+ghost use Rattle.csr.specs.Timer.{start_value, tcfg, with_tcfg, after_beat, runs_out};
 
 use crate::words::flag;
 use pages::Bits;
@@ -30,12 +30,12 @@ impl Timer {
         self.periodic = flag(word, 1);
         self.init_val = Bits::of_low_bits(word >> 2);
         if self.en {
-            self.tval = self.start();
+            self.tval = self.start_value();
         }
     }
 
-    fn start(&self) -> u32
-        ensures { result ≡ 4 * self.now.init_val }
+    fn start_value(&self) -> u32
+        ensures { result ≡ start_value self.now.init_val }
     {
         self.init_val.value() << 2
     }
@@ -52,7 +52,7 @@ impl Timer {
         self.tval -= 1;
         let reached = self.tval == 0;
         if reached && self.periodic {
-            self.tval = self.start();
+            self.tval = self.start_value();
         }
         reached
     }

@@ -12,8 +12,8 @@ use Rattle.csr.specs.declared.exception.PageFault.{PageFault}
 use Rattle.csr.specs.declared.mode.Mode.{Mode}
 use Rattle.translation.specs.Translation.{Place, place, translation}
 use Rattle.translation.specs.Laws.{LoadsFrom}
-use Rattle.translation.proofs.OnePage.{stays_in_page}
-use Rattle.translation.proofs.Lying.{loads_from}
+use Rattle.translation.proofs.OnePage.{within_word, stays_in_page}
+use Rattle.translation.proofs.OneAddress.{loads_from}
 use Rattle.machine.specs.declared.state.State.{State}
 use Rattle.machine.specs.Access.{translated, if_aligned, locate}
 use Rattle.machine.specs.Isolation.{Asks, by_call, in_plv3, Reaches}
@@ -44,15 +44,6 @@ wide w e =
     (λ q. inr (⊎_elim (λ p. inl (eqb-true w 2 p)) (λ p. inr (eqb-true w 4 p)) (or_cases (eqb w 2) (eqb w 4) q)))
     (or_cases (eqb w 1) (eqb w 2 || eqb w 4) e)
 
-stays_word : (a w i : ℕ) → Stands a w → a < 2 ^ 32 → i < w → a + i < 2 ^ 32
-stays_word a w i (inl one, aligned) word within = omega arith
-stays_word a w i (inr (inl two), aligned) word within =
-    let even : a % 2 ≡ 0 = subst (λ (n : ℕ). a % n ≡ 0) two aligned in
-    omega arith
-stays_word a w i (inr (inr four), aligned) word within =
-    let even : a % 4 ≡ 0 = subst (λ (n : ℕ). a % n ≡ 0) four aligned in
-    omega arith
-
 module _ (s : State) (user : s.registers.mode.plv ≡ Plv3) where
   same_mode : s.registers.mode ≡ in_plv3 s.registers.mode
   same_mode = ap (λ level. record s.registers.mode { plv = level }) user
@@ -68,7 +59,7 @@ module _ (s : State) (user : s.registers.mode.plv ≡ Plv3) where
       record {
         at = low_32_bits at + (x - to.0);
         mat = found.mat;
-        word = stays_word (low_32_bits at) w (x - to.0) stands word within;
+        word = omega (arith, within_word (low_32_bits at) w (x - to.0) stands within);
         leads =
             sym (ap (λ (mode : Mode). translation mode s.registers.windows s.tlb k (low_32_bits at + (x - to.0))) same_mode)
             ∙ stays_in_page s.registers.mode s.registers.windows s.tlb k (low_32_bits at) w (x - to.0) to.0 found.mat stands within found.leads

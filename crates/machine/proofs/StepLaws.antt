@@ -17,7 +17,7 @@ use Rattle.csr.specs.Interrupts.{due}
 use Rattle.control.specs.Exceptions.{interrupted}
 use Rattle.translation.specs.Translation.{Place}
 use Rattle.translation.specs.Laws.{SameOffset}
-use Rattle.translation.proofs.Lying.{same_offset}
+use Rattle.translation.proofs.OneAddress.{same_offset}
 use Rattle.actions.specs.declared.action.PrivilegedAction.{PrivilegedAction}
 use Rattle.actions.specs.declared.action.PrivilegedAction.TheVariants.{Csrrd, Csrwr, Csrxchg, Tlb, Invtlb, Ertn, Idle, Cacop}
 use Rattle.actions.specs.User.{virtual}

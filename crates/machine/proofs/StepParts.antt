@@ -11,7 +11,7 @@ use Rattle.pages.specs.declared.access_kind.AccessKind.TheVariants as kind
 use Rattle.pages.specs.declared.address.VirtAddr.{VirtAddr}
 use Rattle.csr.specs.Interrupts.{due}
 use Rattle.control.specs.declared.registers.Registers.{Registers}
-use Rattle.control.specs.Exceptions.{with_levels, interrupted, beaten}
+use Rattle.control.specs.Exceptions.{with_levels, interrupted, registers_after_beat}
 use Rattle.actions.specs.declared.action.Action.{Action}
 use Rattle.actions.specs.declared.action.Action.TheVariants.{Store}
 use Rattle.actions.specs.Plan.{plan}
@@ -63,7 +63,7 @@ acted_stays s levels m e is =
 
 module _ (s : State) (levels : ℕ) (m : Memory) where
   pub accepted_step : (taken : Registers) (e : Event) (t : State) (n : Memory) (after : Registers) → taken ≡ with_levels s.registers levels
-      → outcome (Ok e) t n ≡ act (record s { registers = taken }) m → after ≡ beaten t.registers
+      → outcome (Ok e) t n ≡ act (record s { registers = taken }) m → after ≡ registers_after_beat t.registers
       → outcome (Ok e) (record t { registers = after }) n ≡ step s levels m
   unfolding step
   accepted_step taken e t n after at is beat =

@@ -2,14 +2,14 @@
 use Rattle.std.specs.Prelude.{ℕ}
 use Rattle.isa.specs.declared.register.Reg.{Reg}
 use Rattle.pages.specs.declared.address.VirtAddr.{VirtAddr}
-use Rattle.tlb.specs.Searching.{reset}
+use Rattle.tlb.specs.Searching.{reset_tlb}
 use Rattle.control.specs.Reset.{reset_registers}
 use Rattle.actions.specs.User.{reset_user, next_pc, with_pc, written}
 use Rattle.machine.specs.declared.state.Activity.TheVariants.{Running}
 use Rattle.machine.specs.declared.state.State.{State}
 
 abbrev pub reset_state : State
-reset_state = record { user = reset_user; registers = reset_registers; tlb = reset; activity = Running }
+reset_state = record { user = reset_user; registers = reset_registers; tlb = reset_tlb; activity = Running }
 
 abbrev pub goes_to : State → VirtAddr → State
 goes_to s next = record s { user = with_pc s.user next }

@@ -2,7 +2,7 @@
 use Rattle.std.specs.Prelude.{ℕ, zero, suc, Bool, true, false, Some, None, Ok, Err}
 use Rattle.bus.specs.Memory.{Memory}
 use Rattle.csr.specs.Interrupts.{due}
-use Rattle.control.specs.Exceptions.{with_levels, beaten}
+use Rattle.control.specs.Exceptions.{with_levels, registers_after_beat}
 use Rattle.machine.specs.declared.answers.Event.TheVariants as event
 use Rattle.machine.specs.declared.answers.RunReport.{RunReport}
 use Rattle.machine.specs.declared.state.Activity.{Activity}
@@ -32,7 +32,7 @@ abbrev pub act : State → Memory → Outcome StepAnswer
 act s m = by_waiting (keeps_waiting s.activity (due s.registers.interrupts)) s m
 
 abbrev pub with_beat : State → State
-with_beat s = record s { registers = beaten s.registers }
+with_beat s = record s { registers = registers_after_beat s.registers }
 
 -- the beat ends every accepted step; one that was refused leaves everything as it was
 abbrev pub ended : State → Memory → StepAnswer → Outcome StepAnswer → Outcome StepAnswer

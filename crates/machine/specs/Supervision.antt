@@ -12,7 +12,7 @@ use Rattle.csr.specs.declared.exception.Exception.TheVariants.{Ine, Ipe}
 use Rattle.control.specs.declared.number.Csr.{Csr}
 use Rattle.control.specs.Numbers.{csr_numbered}
 use Rattle.control.specs.Instructions.{csrrd, csrwr, csrxchg}
-use Rattle.control.specs.TlbInstructions.{entry_to_write, searched, entry_read}
+use Rattle.control.specs.TlbInstructions.{entry_to_write, tlbsrch, tlbrd}
 use Rattle.control.specs.Exceptions.{returned}
 use Rattle.actions.specs.declared.action.PrivilegedAction.{PrivilegedAction}
 use Rattle.actions.specs.declared.action.PrivilegedAction.TheVariants.{Csrrd, Csrwr, Csrxchg, Tlb, Invtlb, Ertn, Idle, Cacop}
@@ -33,8 +33,8 @@ abbrev pub csr_exchanged : State → Reg → Option Csr → ℕ → ℕ → Stat
 csr_exchanged s rd csr value mask = with_result (record s { registers = csrxchg s.registers csr value mask }) rd (csrrd s.registers csr)
 
 abbrev pub tlb_done : State → TlbOp → State
-tlb_done s Tlbsrch = advanced (record s { registers = searched s.registers s.tlb })
-tlb_done s Tlbrd = advanced (record s { registers = entry_read s.registers (tlb.entry s.tlb s.registers.tlb_registers.index) })
+tlb_done s Tlbsrch = advanced (record s { registers = tlbsrch s.registers s.tlb })
+tlb_done s Tlbrd = advanced (record s { registers = tlbrd s.registers (tlb.entry s.tlb s.registers.tlb_registers.index) })
 tlb_done s Tlbwr = advanced (record s { tlb = tlb.written s.registers.tlb_registers.index (entry_to_write s.registers) s.tlb })
 tlb_done s Tlbfill = advanced (record s { tlb = tlb.filled (entry_to_write s.registers) s.tlb })
 

@@ -7,7 +7,7 @@ use crate::stages::RunningCore;
 use control::Csr;
 use isa::Reg;
 use pages::{Bits, VirtAddr};
-use tlb::Entry;
+use tlb::{ENTRIES, Entry};
 
 impl RunningCore {
     pub fn pc(&self) -> VirtAddr
@@ -41,7 +41,7 @@ impl RunningCore {
     pub fn tlb_entry(&self, number: u32) -> Result<Entry, CallRefusal>
         ensures { result ≡ tlb_entry_read self.now number }
     {
-        if number < 16 {
+        if number < ENTRIES as u32 {
             Ok(*self.inner.state.tlb.entry(Bits::of_low_bits(number)))
         } else {
             Err(CallRefusal::NoTlbEntry)

@@ -10,6 +10,7 @@ pub enum AccessKind {
 }
 
 impl AccessKind {
+    // The number by which a refused step tells its kind.
     pub fn number(self) -> u8
         ensures { result ≡ kind_number self }
     {

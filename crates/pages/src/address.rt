@@ -1,5 +1,6 @@
 // A program's address, and the number of a frame of physical memory. With `PhysAddr` they are three types: a call that is due one
-// takes neither of the others, and only translation makes a physical address of a virtual one.
+// takes neither of the others. Translation alone makes a physical address of a virtual one; the look-aside of the core, which keeps the
+// last page and frame for each kind of access, gives again what translation gave, by its invariant.
 ghost use Rattle.std.specs.Prelude.{◌≡◌, ◌/◌, ◌%◌, ◌^◌};
 
 use crate::bits::{Bits, Vppn};

@@ -10,7 +10,7 @@ pub mod privilege;
 
 pub use access_kind::AccessKind;
 pub use address::{Frame, VirtAddr};
-pub use bits::{AccessType, Asid, Bits, TlbIndex, Vppn};
+pub use bits::{ASID_BITS, AccessType, Asid, Bits, TlbIndex, Vppn};
 pub use half::Half;
 pub use page_size::PageSize;
 pub use privilege::Privilege;

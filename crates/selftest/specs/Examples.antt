@@ -14,7 +14,7 @@ use Rattle.pages.specs.declared.privilege.Privilege.TheVariants.{Plv0, Plv3}
 use Rattle.tlb.specs.declared.entry.Entry.{Entry}
 use Rattle.tlb.specs.declared.table.Tlb.{Tlb}
 use Rattle.tlb.specs.Entries.{empty, empty_half}
-use Rattle.tlb.specs.Searching.{reset, filled}
+use Rattle.tlb.specs.Searching.{reset_tlb, filled}
 use Rattle.csr.specs.declared.exception.Exception.TheVariants.{Ale}
 use Rattle.csr.specs.declared.mode.Mode.{Mode}
 use Rattle.csr.specs.declared.mode.TranslationMode.TheVariants.{Mapped}
@@ -58,7 +58,7 @@ large_entry = record empty {
 }
 
 abbrev pub large_tlb : Tlb
-large_tlb = filled large_entry reset
+large_tlb = filled large_entry reset_tlb
 
 -- addi.w r4, r0, 5; csrwr r4, TCFG; and three that do nothing
 pub record HoldsTimer (m : Memory) : Type 0 where
@@ -83,7 +83,7 @@ pub record WorkedExamples : Type 0 where
   -- SLTUI sign-extends -1, and then compares without sign
   pub comparison : immediate_result Sltui 5000 (field_of 12 0xfff) ≡ 1
   -- a window for PLV0 is none for PLV3, where the TLB is searched
-  pub window : translation (mapped_mode Plv0) one_window reset kind.Load 0xa0001234 ≡ Ok (place 0x1234 0)
+  pub window : translation (mapped_mode Plv0) one_window reset_tlb kind.Load 0xa0001234 ≡ Ok (place 0x1234 0)
   pub no_window : (tlb : Tlb) → translation (mapped_mode Plv3) one_window tlb kind.Load 0xa0001234 ≡ through_tlb (mapped_mode Plv3) tlb kind.Load 0xa0001234
   -- a pair of large pages is told apart by bit 21 of the address
   pub large_page : translation (mapped_mode Plv0) no_windows large_tlb kind.Load 0x401234 ≡ Ok (place 0x801234 0)

@@ -4,7 +4,7 @@ use Rattle.bus.specs.Memory.{Memory, within}
 use Rattle.pages.specs.declared.access_kind.AccessKind.TheVariants as kind
 use Rattle.pages.specs.declared.privilege.Privilege.TheVariants.{Plv3}
 use Rattle.tlb.specs.declared.entry.Entry.{Entry}
-use Rattle.tlb.specs.Searching.{reset, filled}
+use Rattle.tlb.specs.Searching.{reset_tlb, filled}
 use Rattle.machine.specs.declared.state.State.{State}
 use Rattle.machine.specs.Isolation.{Reaches}
 use Rattle.machine.specs.Laws.{RunWithheld}
@@ -23,7 +23,7 @@ user_entry = record large_entry { even = record large_entry.even { plv = 3 } }
 abbrev pub user_state : State
 user_state = record reset_state {
   registers = record reset_state.registers { mode = mapped_mode Plv3 };
-  tlb = filled user_entry reset;
+  tlb = filled user_entry reset_tlb;
 }
 
 pub record Reach : Type 0 where

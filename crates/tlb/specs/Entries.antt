@@ -21,11 +21,11 @@ abbrev pub covers : Entry → ℕ → Bool
 covers e at = same_pair e.page_size e.vppn at
 
 -- whether it maps the address for a program of that ASID, if it exists
-abbrev pub meant : Entry → ℕ → ℕ → Bool
-meant e at asid = (e.global || e.asid == asid) && covers e at
+abbrev pub maps_for : Entry → ℕ → ℕ → Bool
+maps_for e at asid = (e.global || e.asid == asid) && covers e at
 
 abbrev pub fits : Entry → ℕ → ℕ → Bool
-fits e at asid = e.exists && meant e at asid
+fits e at asid = e.exists && maps_for e at asid
 
 -- bit PS of an address
 abbrev pub odd : PageSize → ℕ → Bool

@@ -5,7 +5,7 @@ use Rattle.tlb.specs.declared.entry.Entry.{Entry}
 use Rattle.tlb.specs.declared.invalidation.Invalidation.{Invalidation}
 use Rattle.tlb.specs.declared.invalidation.Invalidation.TheVariants.{All, Global, NotGlobal, NotGlobalOfAsid, NotGlobalOfAsidAt, GlobalOrOfAsidAt}
 use Rattle.tlb.specs.declared.table.Tlb.{Tlb}
-use Rattle.tlb.specs.Entries.{covers, meant}
+use Rattle.tlb.specs.Entries.{covers, maps_for}
 
 -- INVTLB's op, with the ASID and the address that its registers hold
 abbrev pub numbered : ℕ → ℕ → VirtAddr → Option Invalidation
@@ -25,7 +25,7 @@ selects Global e = e.global
 selects NotGlobal e = not e.global
 selects (NotGlobalOfAsid asid) e = not e.global && e.asid == asid
 selects (NotGlobalOfAsidAt asid at) e = not e.global && e.asid == asid && covers e at.0
-selects (GlobalOrOfAsidAt asid at) e = meant e at.0 asid
+selects (GlobalOrOfAsidAt asid at) e = maps_for e at.0 asid
 
 -- an entry of which E is cleared
 abbrev pub emptied : Entry → Entry

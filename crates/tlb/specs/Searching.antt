@@ -5,8 +5,8 @@ use Rattle.tlb.specs.declared.table.Tlb.{Tlb}
 use Rattle.tlb.specs.declared.table.TheConstants.{ENTRIES}
 use Rattle.tlb.specs.Entries.{empty, fits}
 
-abbrev pub reset : Tlb
-reset = record { entries = replicate ENTRIES empty; fill_at = 0 }
+abbrev pub reset_tlb : Tlb
+reset_tlb = record { entries = replicate ENTRIES empty; fill_at = 0 }
 
 abbrev pub entry_of : List Entry → ℕ → Entry
 entry_of es k = slice_index_or es k empty
@@ -28,7 +28,7 @@ NoneFitsBelow es at asid n = (k : ℕ) → k < n → fits (entry_of es k) at asi
 abbrev pub FitsFirst : List Entry → ℕ → ℕ → ℕ → Type 0
 FitsFirst es at asid i = (fits (entry_of es i) at asid ≡ true) × NoneFitsBelow es at asid i
 
--- the first entry that fits, or that none of all does
+-- Some i: entry i is the first that fits; None: no entry fits
 abbrev pub IsFirst : List Entry → ℕ → ℕ → Option ℕ → Type 0
 IsFirst es at asid (Some i) = (i < ENTRIES) × FitsFirst es at asid i
 IsFirst es at asid None = NoneFitsBelow es at asid ENTRIES

@@ -1,6 +1,6 @@
 // An entry of the TLB: which pair of pages it maps, and for whom.
 ghost use Rattle.std.specs.Prelude.{◌≡◌};
-ghost use Rattle.tlb.specs.Entries.{empty, covers, meant, fits, odd, half};
+ghost use Rattle.tlb.specs.Entries.{empty, covers, maps_for, fits, odd, half};
 
 use pages::{Asid, Bits, Frame, Half, PageSize, VirtAddr, Vppn};
 
@@ -40,26 +40,26 @@ impl Entry {
     }
 
     // Whether the address lies in one of the entry's two pages: whether its bits from 31 down to PS + 1 are the entry's.
-    pub fn covers(&self, at: VirtAddr) -> bool
+    pub(crate) fn covers(&self, at: VirtAddr) -> bool
         ensures { result ≡ covers self.now at.0 }
     {
         match self.page_size {
-            PageSize::Small => at.0 >> 13 == self.vppn.value(),
+            PageSize::Small => at.vppn() == self.vppn,
             PageSize::Large => at.0 >> 22 == self.vppn.value() >> 9,
         }
     }
 
     // Whether it maps the address for a program of that ASID, if it exists.
-    pub(crate) fn is_meant(&self, at: VirtAddr, asid: Asid) -> bool
-        ensures { result ≡ meant self.now at.0 asid }
+    pub(crate) fn maps_for(&self, at: VirtAddr, asid: Asid) -> bool
+        ensures { result ≡ maps_for self.now at.0 asid }
     {
         (self.global || self.asid == asid) && self.covers(at)
     }
 
-    pub fn fits(&self, at: VirtAddr, asid: Asid) -> bool
+    pub(crate) fn fits(&self, at: VirtAddr, asid: Asid) -> bool
         ensures { result ≡ fits self.now at.0 asid }
     {
-        self.exists && self.is_meant(at, asid)
+        self.exists && self.maps_for(at, asid)
     }
 
     // Bit PS of the address: whether it lies in the second of the two pages, if in one of them.

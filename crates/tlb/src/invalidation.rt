@@ -34,7 +34,7 @@ impl Invalidation {
     }
 
     // Whether it empties that entry. It does not matter whether the entry is empty already.
-    pub fn selects(&self, entry: &Entry) -> bool
+    pub(crate) fn selects(&self, entry: &Entry) -> bool
         ensures { result ≡ selects self.now entry.now }
     {
         match *self {
@@ -45,7 +45,7 @@ impl Invalidation {
             Invalidation::NotGlobalOfAsidAt(asid, at) => {
                 !entry.global && entry.asid == asid && entry.covers(at)
             }
-            Invalidation::GlobalOrOfAsidAt(asid, at) => entry.is_meant(at, asid),
+            Invalidation::GlobalOrOfAsidAt(asid, at) => entry.maps_for(at, asid),
         }
     }
 }

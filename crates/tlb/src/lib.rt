@@ -7,4 +7,4 @@ pub mod table;
 
 pub use entry::Entry;
 pub use invalidation::Invalidation;
-pub use table::Tlb;
+pub use table::{ENTRIES, Tlb};

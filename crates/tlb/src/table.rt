@@ -1,6 +1,6 @@
 // The TLB's entries, and the index that the next TLBFILL writes.
 ghost use Rattle.std.specs.Prelude.{◌≡◌, length};
-ghost use Rattle.tlb.specs.Searching.{reset, entry, find, find_from, IsFirst, written, filled};
+ghost use Rattle.tlb.specs.Searching.{reset_tlb, entry, find, find_from, IsFirst, written, filled};
 ghost use Rattle.tlb.specs.Invalidating.{invalidated};
 
 use crate::entry::Entry;
@@ -9,7 +9,7 @@ use pages::{Asid, Bits, TlbIndex, VirtAddr};
 use std::mem;
 
 // As many as an index has values.
-const ENTRIES: usize = 16;
+pub const ENTRIES: usize = 16;
 
 #[derive(Clone, Copy, PartialEq, Eq, Debug)]
 pub struct Tlb {
@@ -34,7 +34,7 @@ fn first(entries: &[Entry], at: VirtAddr, asid: Asid) -> Option<TlbIndex>
 impl Tlb {
     // As reset leaves it.
     pub fn new() -> Tlb
-        ensures { result ≡ reset }
+        ensures { result ≡ reset_tlb }
     {
         Tlb {
             entries: [Entry::empty(); ENTRIES],
@@ -54,13 +54,6 @@ impl Tlb {
         ensures { result.now ≡ entry self.now index }
     {
         &self.entries[index.value() as usize]
-    }
-
-    // Where the next fill goes.
-    pub fn fill_at(&self) -> TlbIndex
-        ensures { result ≡ self.now.fill_at }
-    {
-        self.fill_at
     }
 
     pub fn write(&mut self, index: TlbIndex, entry: Entry)

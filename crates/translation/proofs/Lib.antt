@@ -1,4 +1,4 @@
-pub mod Ways
-pub mod Lying
+mod Ways
+pub mod OneAddress
 pub mod OnePage
-mod Together
+mod AllLaws

@@ -10,7 +10,7 @@ use Rattle.tlb.specs.declared.entry.Entry.{Entry}
 use Rattle.tlb.specs.declared.table.Tlb.{Tlb}
 use Rattle.tlb.specs.Entries.{half}
 use Rattle.tlb.specs.Searching.{entry, find}
-use Rattle.tlb.proofs.OnePage.{find_there, half_there}
+use Rattle.tlb.proofs.OnePage.{SamePage, find_same_page, half_same_page}
 use Rattle.csr.specs.declared.exception.PageFault.{PageFault}
 use Rattle.csr.specs.declared.mode.Mode.{Mode}
 use Rattle.csr.specs.declared.mode.TranslationMode.{TranslationMode}
@@ -19,63 +19,63 @@ use Rattle.csr.specs.declared.window.Window.{Window}
 use Rattle.csr.specs.declared.window.Windows.{Windows}
 use Rattle.translation.specs.Translation.{Place, place, direct_type, admits, window_for, place_in, permission, in_page, if_permitted, through_found, by_window, by_mode, translation}
 use Rattle.translation.specs.Laws.{SameOffset, moved, WholePage}
-use Rattle.translation.proofs.Lying.{same_offset}
+use Rattle.translation.proofs.OneAddress.{same_offset}
 
-window_there : (ws : Windows) (level : Privilege) (at near : ℕ) → near / 2 ^ 12 ≡ at / 2 ^ 12
+window_same_page : (ws : Windows) (level : Privilege) (at near : ℕ) → SamePage at near
     → window_for ws level near ≡ window_for ws level at
-window_there ws level at near same =
+window_same_page ws level at near same =
     let segment : near / 2 ^ 29 ≡ at / 2 ^ 29 = omega arith in
     let choice : ℕ → Option Window = λ n. cond (admits ws.dmw1 level && n == ws.dmw1.vseg) (Some ws.dmw1)
     (cond (admits ws.dmw0 level && n == ws.dmw0.vseg) (Some ws.dmw0) None) in
     ap choice segment
 
-place_there : (size : PageSize) (frame at near : ℕ) → near / 2 ^ 12 ≡ at / 2 ^ 12
+place_same_page : (size : PageSize) (frame at near : ℕ) → SamePage at near
     → place_in size frame near ≡ place_in size frame at / 2 ^ 12 * 2 ^ 12 + near % 2 ^ 12
-place_there Small frame at near same = omega arith
-place_there Large frame at near same = omega arith
+place_same_page Small frame at near same = omega arith
+place_same_page Large frame at near same = omega arith
 
-in_page_there : (size : PageSize) (h : Half) (at near : ℕ) → near / 2 ^ 12 ≡ at / 2 ^ 12 → (r : Result (Unit {0}) PageFault)
+in_page_same_page : (size : PageSize) (h : Half) (at near : ℕ) → SamePage at near → (r : Result (Unit {0}) PageFault)
     → if_permitted r (in_page size h near) ≡ moved near (if_permitted r (in_page size h at))
-in_page_there size h at near same (Err fault) = refl
-in_page_there size h at near same (Ok _) = ap (λ n. Ok (place n h.mat)) (place_there size h.frame.0 at near same)
+in_page_same_page size h at near same (Err fault) = refl
+in_page_same_page size h at near same (Ok _) = ap (λ n. Ok (place n h.mat)) (place_same_page size h.frame.0 at near same)
 
-found_there : (mode : Mode) (tlb : Tlb) (kind : AccessKind) (at near : ℕ) → near / 2 ^ 12 ≡ at / 2 ^ 12 → (o : Option ℕ)
+found_same_page : (mode : Mode) (tlb : Tlb) (kind : AccessKind) (at near : ℕ) → SamePage at near → (o : Option ℕ)
     → through_found o mode tlb kind near ≡ moved near (through_found o mode tlb kind at)
-found_there mode tlb kind at near same None = refl
-found_there mode tlb kind at near same (Some i) =
+found_same_page mode tlb kind at near same None = refl
+found_same_page mode tlb kind at near same (Some i) =
     let e : Entry = entry tlb i in
-    ap (λ (h : Half). if_permitted (permission h mode.plv kind) (in_page e.page_size h near)) (half_there e at near same)
-    ∙ in_page_there e.page_size (half e at) at near same (permission (half e at) mode.plv kind)
+    ap (λ (h : Half). if_permitted (permission h mode.plv kind) (in_page e.page_size h near)) (half_same_page e at near same)
+    ∙ in_page_same_page e.page_size (half e at) at near same (permission (half e at) mode.plv kind)
 
-by_window_there : (mode : Mode) (tlb : Tlb) (kind : AccessKind) (at near : ℕ) → near / 2 ^ 12 ≡ at / 2 ^ 12 → (o : Option Window)
+by_window_same_page : (mode : Mode) (tlb : Tlb) (kind : AccessKind) (at near : ℕ) → SamePage at near → (o : Option Window)
     → by_window o mode tlb kind near ≡ moved near (by_window o mode tlb kind at)
-by_window_there mode tlb kind at near same (Some w) =
+by_window_same_page mode tlb kind at near same (Some w) =
     let to : w.pseg * 2 ^ 29 + near % 2 ^ 29 ≡ (w.pseg * 2 ^ 29 + at % 2 ^ 29) / 2 ^ 12 * 2 ^ 12 + near % 2 ^ 12 = omega arith in
     ap (λ n. Ok (place n w.mat)) to
-by_window_there mode tlb kind at near same None =
-    ap (λ o. through_found o mode tlb kind near) (find_there 0 tlb.entries at near mode.asid same)
-    ∙ found_there mode tlb kind at near same (find tlb at mode.asid)
+by_window_same_page mode tlb kind at near same None =
+    ap (λ o. through_found o mode tlb kind near) (find_same_page 0 tlb.entries at near mode.asid same)
+    ∙ found_same_page mode tlb kind at near same (find tlb at mode.asid)
 
-by_mode_there : (mode : Mode) (ws : Windows) (tlb : Tlb) (kind : AccessKind) (at near : ℕ) → near / 2 ^ 12 ≡ at / 2 ^ 12
+by_mode_same_page : (mode : Mode) (ws : Windows) (tlb : Tlb) (kind : AccessKind) (at near : ℕ) → SamePage at near
     → (t : TranslationMode) → by_mode t mode ws tlb kind near ≡ moved near (by_mode t mode ws tlb kind at)
-by_mode_there mode ws tlb kind at near same Direct =
+by_mode_same_page mode ws tlb kind at near same Direct =
     let to : near ≡ at / 2 ^ 12 * 2 ^ 12 + near % 2 ^ 12 = omega arith in
     ap (λ n. Ok (place n (direct_type mode kind))) to
-by_mode_there mode ws tlb kind at near same Mapped =
-    ap (λ o. by_window o mode tlb kind near) (window_there ws mode.plv at near same)
-    ∙ by_window_there mode tlb kind at near same (window_for ws mode.plv at)
+by_mode_same_page mode ws tlb kind at near same Mapped =
+    ap (λ o. by_window o mode tlb kind near) (window_same_page ws mode.plv at near same)
+    ∙ by_window_same_page mode tlb kind at near same (window_for ws mode.plv at)
 
 pub whole_page : (mode : Mode) (ws : Windows) (tlb : Tlb) (kind : AccessKind) (at : ℕ)
     → WholePage mode ws tlb kind at (translation mode ws tlb kind at)
-whole_page mode ws tlb kind at near same = by_mode_there mode ws tlb kind at near same mode.translation
+whole_page mode ws tlb kind at near same = by_mode_same_page mode ws tlb kind at near same mode.translation
 
--- the bytes that an aligned access names, at each width
-bytes_together : (at w i : ℕ) → Stands at w → i < w → at % 2 ^ 12 + i < 2 ^ 12
-bytes_together at w i (inl one, aligned) within = omega arith
-bytes_together at w i (inr (inl two), aligned) within =
+-- the bytes that an aligned access names lie in one word of 4 bytes
+pub within_word : (at w i : ℕ) → Stands at w → i < w → at % 4 + i < 4
+within_word at w i (inl one, aligned) within = omega arith
+within_word at w i (inr (inl two), aligned) within =
     let even : at % 2 ≡ 0 = subst (λ (n : ℕ). at % n ≡ 0) two aligned in
     omega arith
-bytes_together at w i (inr (inr four), aligned) within =
+within_word at w i (inr (inr four), aligned) within =
     let even : at % 4 ≡ 0 = subst (λ (n : ℕ). at % n ≡ 0) four aligned in
     omega arith
 
@@ -85,6 +85,6 @@ pub stays_in_page : (mode : Mode) (ws : Windows) (tlb : Tlb) (kind : AccessKind)
 stays_in_page mode ws tlb kind at w i p mat stands within is =
     let Kept : Result Place PageFault → Type 0 = λ r. IfOk r (λ to. SameOffset at to.0.0) in
     let kept : SameOffset at p = subst Kept is (same_offset mode ws tlb kind at) in
-    let room : at % 2 ^ 12 + i < 2 ^ 12 = bytes_together at w i stands within in
+    let room : at % 2 ^ 12 + i < 2 ^ 12 = omega (arith, within_word at w i stands within) in
     let to : p / 2 ^ 12 * 2 ^ 12 + (at + i) % 2 ^ 12 ≡ p + i = omega arith in
     whole_page mode ws tlb kind at (at + i) (omega arith) ∙ ap (moved (at + i)) is ∙ ap (λ n. Ok (place n mat)) to

@@ -1,4 +1,4 @@
-// By mode: as it is, or through a window if one applies, or else through the TLB.
+// Translation as DA and PG say: direct; or through a window that applies, else through the TLB.
 ghost use Rattle.std.specs.Prelude.{◌≡◌, IfOk};
 ghost use Rattle.translation.specs.Translation.{direct, mapped, translation};
 ghost use Rattle.translation.specs.Laws.{SameOffset, LeadsTo, LoadsFrom, WholePage};
@@ -10,7 +10,7 @@ use csr::{Mode, PageFault, TranslationMode, Windows};
 use pages::{AccessKind, AccessType, VirtAddr};
 use tlb::Tlb;
 
-// In direct mode an address is its own.
+// In direct mode the physical address is the virtual one.
 pub fn direct(mode: &Mode, kind: AccessKind, at: VirtAddr) -> (PhysAddr, AccessType)
     ensures { result ≡ direct mode.now kind at.0 }
 {

@@ -1,7 +1,7 @@
 -- The laws are the definition's, and the result is what the definition gives.
 use Rattle.std.proofs.Common.{Ok, sym, ap, ◌∙◌}
 use Rattle.translation.proofs.Ways.{goes_direct}
-use Rattle.translation.proofs.Together.{lawful, lawful_mapped}
+use Rattle.translation.proofs.AllLaws.{lawful, lawful_mapped}
 use Rattle.translation.proofs.by_mode.translate.Goals as goal
 
 pub returns-in-Direct-clause-loads : goal.returns-in-Direct-clause-loads

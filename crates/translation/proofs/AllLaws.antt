@@ -9,7 +9,7 @@ use Rattle.tlb.specs.declared.table.Tlb.{Tlb}
 use Rattle.translation.specs.Translation.{Place, mapped, translation}
 use Rattle.translation.specs.Laws.{SameOffset, LeadsTo, LoadsFrom, WholePage}
 use Rattle.translation.proofs.Ways.{goes_mapped}
-use Rattle.translation.proofs.Lying.{same_offset, leads_to, loads_from}
+use Rattle.translation.proofs.OneAddress.{same_offset, leads_to, loads_from}
 use Rattle.translation.proofs.OnePage.{whole_page}
 
 abbrev pub Answer : Type 0
