@@ -1,3 +1,4 @@
 pub mod Texts
 pub mod Accesses
 pub mod Ruling
+pub mod Views

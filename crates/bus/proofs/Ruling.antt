@@ -13,8 +13,8 @@ use Rattle.bus.specs.Memory.{Memory, Sound, address, held, is_width, is_absent, 
 use Rattle.bus.specs.Rules.{Stands, Names, NoneNamed, LowestNamed, Reads, ReadRule, misaligned, missing, value, Replaced, WriteRule, unwritable, written}
 use Rattle.bus.proofs.Accesses.{within_bounds, Written}
 
-pub without_names : (a w x : ℕ) → within a w x ≡ false → Names a w x → ⊥
-without_names a w x e l = let z : ◌≡◌ {A = ℕ} 0 1 = grind (arith, nat_tests) in omega arith
+pub not_named : (a w x : ℕ) → within a w x ≡ false → Names a w x → ⊥
+not_named a w x e l = grind (arith, nat_tests)
 
 -- a scan passes where p is true of no cell, and else refuses the lowest
 abbrev Passes : {X : Type 0} → (Cell → Bool) → (PhysAddr → Refusal) → Memory → ℕ → ℕ → Result X Refusal → Type 0
@@ -53,23 +53,27 @@ module _ {X : Type 0} (p : Cell → Bool) (refused : PhysAddr → Refusal) (m : 
       go rest true e = inr (a, (record { named = (omega arith, omega arith); true_there = e; false_below = λ y l u. absurd (omega arith) }, cond-true (p (m a)) _ _ e))
       go rest false e = further a n r e rest
 
-stands : (a w : ℕ) → aligned a w ≡ true → Stands a w
-stands a w e =
-    let both = and_parts (is_width w) (eqb (a % w) 0) e in (
-      ⊎_elim (λ p. inl (eqb-true w 1 p)) (λ q. inr (⊎_elim (λ p. inl (eqb-true w 2 p)) (λ p. inr (eqb-true w 4 p)) (or_cases (eqb w 2) (eqb w 4) q))) (or_cases (eqb w 1) (eqb w 2 || eqb w 4) both.0),
-      eqb-true (a % w) 0 both.1,
-    )
+pub width_cases : (w : ℕ) → is_width w ≡ true → (w ≡ 1) ⊎ ((w ≡ 2) ⊎ (w ≡ 4))
+width_cases w e =
+    ⊎_elim (λ p. inl (eqb-true w 1 p))
+    (λ q. inr (⊎_elim (λ p. inl (eqb-true w 2 p)) (λ p. inr (eqb-true w 4 p)) (or_cases (eqb w 2) (eqb w 4) q)))
+    (or_cases (eqb w 1) (eqb w 2 || eqb w 4) e)
 
-pub steady : (a w : ℕ) → Stands a w → aligned a w ≡ true
-steady a w s = and_from (is_width w) (eqb (a % w) 0) (wide s.0) (eq-eqb (a % w) 0 s.1)
+aligned_stands : (a w : ℕ) → aligned a w ≡ true → Stands a w
+aligned_stands a w e =
+    let both = and_parts (is_width w) (eqb (a % w) 0) e in
+    (width_cases w both.0, eqb-true (a % w) 0 both.1)
+
+pub stands_aligned : (a w : ℕ) → Stands a w → aligned a w ≡ true
+stands_aligned a w s = and_from (is_width w) (eqb (a % w) 0) (wide s.0) (eq-eqb (a % w) 0 s.1)
   where
     wide : (w ≡ 1) ⊎ ((w ≡ 2) ⊎ (w ≡ 4)) → is_width w ≡ true
     wide (inl p) = or_left (eqb w 1) _ (eq-eqb w 1 p)
     wide (inr (inl p)) = or_right (eqb w 1) _ (or_left (eqb w 2) _ (eq-eqb w 2 p))
     wide (inr (inr p)) = or_right (eqb w 1) _ (or_right (eqb w 2) _ (eq-eqb w 4 p))
 
-unsteady : (a w : ℕ) → aligned a w ≡ false → Stands a w → ⊥
-unsteady a w e s = both_ways (aligned a w) e (steady a w s)
+misaligned_stands_not : (a w : ℕ) → aligned a w ≡ false → Stands a w → ⊥
+misaligned_stands_not a w e s = both_ways (aligned a w) e (stands_aligned a w s)
 
 -- the number in n cells has their bytes
 module _ (m : Memory) (sound : Sound m) where
@@ -105,10 +109,10 @@ module _ (m : Memory) (a w : ℕ) where
       go : (t : Bool) → aligned a w ≡ t → ReadRule m a w (read_of m a w)
       go true e =
           ⊎_elim
-          (λ h. subst (ReadRule m a w) (sym (cond-true (aligned a w) _ _ e ∙ h.1)) (value (value_at m a w) (stands a w e) h.0 (reads m sound a w)))
-          (λ h. subst (ReadRule m a w) (sym (cond-true (aligned a w) _ _ e ∙ h.1.1)) (missing (Absent (address h.0)) h.0 (stands a w e) h.1.0 (refl, refl)))
+          (λ h. subst (ReadRule m a w) (sym (cond-true (aligned a w) _ _ e ∙ h.1)) (value (value_at m a w) (aligned_stands a w e) h.0 (reads m sound a w)))
+          (λ h. subst (ReadRule m a w) (sym (cond-true (aligned a w) _ _ e ∙ h.1.1)) (missing (Absent (address h.0)) h.0 (aligned_stands a w e) h.1.0 (refl, refl)))
           (scan is_absent Absent m a w (Ok (value_at m a w)))
-      go false e = subst (ReadRule m a w) (sym (cond-false (aligned a w) _ _ e)) (misaligned Misaligned (unsteady a w e) (refl, refl))
+      go false e = subst (ReadRule m a w) (sym (cond-false (aligned a w) _ _ e)) (misaligned Misaligned (misaligned_stands_not a w e) (refl, refl))
 
   module _ (v : ℕ) where
     replaced : Replaced m a w v (put m a w v)
@@ -134,26 +138,33 @@ module _ (m : Memory) (a w : ℕ) where
         go true e =
             ⊎_elim
             (λ h. ⊎_elim
-            (λ k. subst Ruled (sym (cond-true (aligned a w) _ _ e ∙ h.1 ∙ k.1)) (written (put m a w v) (stands a w e) h.0 k.0 replaced))
-            (λ k. subst Ruled (sym (cond-true (aligned a w) _ _ e ∙ h.1 ∙ k.1.1)) (unwritable (Fixed (address k.0)) k.0 (stands a w e) h.0 k.1.0 (refl, refl)))
+            (λ k. subst Ruled (sym (cond-true (aligned a w) _ _ e ∙ h.1 ∙ k.1)) (written (put m a w v) (aligned_stands a w e) h.0 k.0 replaced))
+            (λ k. subst Ruled (sym (cond-true (aligned a w) _ _ e ∙ h.1 ∙ k.1.1)) (unwritable (Fixed (address k.0)) k.0 (aligned_stands a w e) h.0 k.1.0 (refl, refl)))
             (scan is_fixed Fixed m a w (Ok (put m a w v))))
-            (λ h. subst Ruled (sym (cond-true (aligned a w) _ _ e ∙ h.1.1)) (missing (Absent (address h.0)) h.0 (stands a w e) h.1.0 (refl, refl)))
+            (λ h. subst Ruled (sym (cond-true (aligned a w) _ _ e ∙ h.1.1)) (missing (Absent (address h.0)) h.0 (aligned_stands a w e) h.1.0 (refl, refl)))
             (scan is_absent Absent m a w (unless_any is_fixed Fixed m a w (Ok (put m a w v))))
-        go false e = subst Ruled (sym (cond-false (aligned a w) _ _ e)) (misaligned Misaligned (unsteady a w e) (refl, refl))
+        go false e = subst Ruled (sym (cond-false (aligned a w) _ _ e)) (misaligned Misaligned (misaligned_stands_not a w e) (refl, refl))
+
+    -- it changes no byte that it does not name
+    pub unnamed_kept : (r : Result (Unit {0}) Refusal) (n : Memory) → WriteRule m a w v r n → (x : ℕ) → within a w x ≡ false → n x ≡ m x
+    unnamed_kept r n (misaligned e s t) x out = refl
+    unnamed_kept r n (missing e y s l t) x out = refl
+    unnamed_kept r n (unwritable e y s h l t) x out = refl
+    unnamed_kept r n (written k s h f q) x out = q.others x (not_named a w x out)
 
 module _ (shown : ℕ → Bool) (m : Memory) (a w v : ℕ) (seen : aligned a w ≡ true → (x : ℕ) → within a w x ≡ true → shown x ≡ true) where
-  hidden_replaced : (n : Memory) → Stands a w → Replaced m a w v n → hidden_cells shown n ≡ hidden_cells shown m
-  hidden_replaced n s q = fun_ext (λ x. go x (within a w x) refl)
+  hidden_standing : (r : Result (Unit {0}) Refusal) (n : Memory) → Stands a w → WriteRule m a w v r n → hidden_cells shown n ≡ hidden_cells shown m
+  hidden_standing r n s rule = fun_ext (λ x. go x (within a w x) refl)
     where
       go : (x : ℕ) (t : Bool) → within a w x ≡ t → hidden_cells shown n x ≡ hidden_cells shown m x
-      go x true e = let see = seen (steady a w s) x e in cond-true (shown x) _ _ see ∙ sym (cond-true (shown x) _ _ see)
-      go x false e = ap (λ c. cond (shown x) absent c) (q.others x (without_names a w x e))
+      go x true e = let see = seen (stands_aligned a w s) x e in cond-true (shown x) _ _ see ∙ sym (cond-true (shown x) _ _ see)
+      go x false e = ap (λ c. cond (shown x) absent c) (unnamed_kept m a w v r n rule x e)
 
   hidden_ruled : (r : Result (Unit {0}) Refusal) (n : Memory) → WriteRule m a w v r n → hidden_cells shown n ≡ hidden_cells shown m
   hidden_ruled r n (misaligned e s t) = refl
   hidden_ruled r n (missing e x s l t) = refl
   hidden_ruled r n (unwritable e x s h l t) = refl
-  hidden_ruled r n (written k s h f q) = hidden_replaced k s q
+  hidden_ruled r n (written k s h f q) = hidden_standing r k s (written k s h f q)
 
   -- a write of what is shown leaves what is hidden
   pub hidden_kept : (r : Result (Unit {0}) Refusal) (n : Memory) → Written m a w v r n → hidden_cells shown n ≡ hidden_cells shown m

@@ -23,31 +23,23 @@ is_accepted (Err e) = false
 abbrev pub nothing : Memory
 nothing a = absent
 
--- m where the numbers were accepted; made of refused ones, absent everywhere
-abbrev pub where_accepted : Result (Unit {0}) BoardRefusal → Memory → Memory
-where_accepted (Ok _) m = m
-where_accepted (Err e) m = nothing
+-- x where a check accepted, and else y
+abbrev pub by_check : {X : Type 0} → Result (Unit {0}) BoardRefusal → X → X → X
+by_check (Ok _) x y = x
+by_check (Err e) x y = y
 
 -- n cells from b on, of which the k-th is f k
 abbrev pub cells_from : ℕ → ℕ → (ℕ → Cell) → Memory
 cells_from b n f a = cond (within b n a) (f (a - b)) absent
 
--- a part of n bytes from b on, whose k-th cell is f k
+-- a part of n bytes from b on, whose k-th cell is f k; made of refused numbers, absent everywhere
 abbrev pub part_cells : ℕ → ℕ → (ℕ → Cell) → Memory
-part_cells b n f = where_accepted (range_check b n) (cells_from b n f)
-
-abbrev pub offset_where : Result (Unit {0}) BoardRefusal → Option ℕ → Option ℕ
-offset_where (Ok _) o = o
-offset_where (Err e) o = None
+part_cells b n f = by_check (range_check b n) (cells_from b n f) nothing
 
 -- how far a lies behind b, if a part of n bytes from b on has it
 abbrev pub offset_in : ℕ → ℕ → ℕ → Option ℕ
-offset_in b n a = offset_where (range_check b n) (cond (within b n a) (Some (a - b)) None)
-
-abbrev pub length_where : Result (Unit {0}) BoardRefusal → ℕ → ℕ
-length_where (Ok _) n = n
-length_where (Err e) n = 0
+offset_in b n a = by_check (range_check b n) (cond (within b n a) (Some (a - b)) None) None
 
 -- how many of n bytes from b on a part has: all, or none
 abbrev pub accepted_length : ℕ → ℕ → ℕ
-accepted_length b n = length_where (range_check b n) n
+accepted_length b n = by_check (range_check b n) n 0

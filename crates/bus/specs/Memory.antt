@@ -12,6 +12,10 @@ Memory = ℕ → Cell
 abbrev pub address : ℕ → PhysAddr
 address a = record { 0 = a }
 
+-- the address n bytes further; behind the last comes the first
+abbrev pub address_after : PhysAddr → ℕ → PhysAddr
+address_after at n = address ((at.0 + n) % 2 ^ 32)
+
 -- the number in a cell
 abbrev pub held : Cell → ℕ
 held absent = 0
@@ -48,10 +52,14 @@ abbrev pub unless_any : {X : Type 0} → (Cell → Bool) → (PhysAddr → Refus
 unless_any p refused m a zero r = r
 unless_any p refused m a (suc n) r = cond (p (m a)) (Err (refused (address a))) (unless_any p refused m (suc a) n r)
 
--- the little-endian number in the n cells from a on
+-- the number of n bytes, the lowest first, of which the first is f k, the next f (k + 1)
+abbrev pub little_endian : (ℕ → ℕ) → ℕ → ℕ → ℕ
+little_endian f k zero = 0
+little_endian f k (suc n) = f k + 256 * little_endian f (suc k) n
+
+-- the number in the n cells from a on
 abbrev pub value_at : Memory → ℕ → ℕ → ℕ
-value_at m a zero = 0
-value_at m a (suc n) = held (m a) + 256 * value_at m (suc a) n
+value_at m a n = little_endian (λ x. held (m x)) a n
 
 abbrev pub read_of : Memory → ℕ → ℕ → Result ℕ Refusal
 read_of m a w = cond (aligned a w) (unless_any is_absent Absent m a w (Ok (value_at m a w))) (Err Misaligned)

@@ -16,6 +16,6 @@ refusal_address Misaligned = None
 refusal_address (Absent at) = Some at
 refusal_address (Fixed at) = Some at
 
-abbrev pub board_number : BoardRefusal → ℕ
-board_number Uneven = 1
-board_number PastEnd = 2
+abbrev pub board_refusal_number : BoardRefusal → ℕ
+board_refusal_number Uneven = 1
+board_refusal_number PastEnd = 2

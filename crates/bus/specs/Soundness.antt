@@ -4,7 +4,7 @@ use Rattle.std.proofs.Common.{arith, lit<}
 use Rattle.std.proofs.lemmas.Bool.{cond-false, cond_both, and_right, le-ltb, leb-true}
 use Rattle.bus.specs.Cell.{Cell, absent}
 use Rattle.bus.specs.Memory.{Sound, held, within}
-use Rattle.bus.specs.Board.{nothing, where_accepted, cells_from, part_cells}
+use Rattle.bus.specs.Board.{nothing, by_check, cells_from, part_cells}
 
 pub nothing_sound : Sound nothing
 nothing_sound = record { ends = λ a p. refl; bytes = λ a. lit< tt }
@@ -17,6 +17,6 @@ cells_sound b n f l h = record {
 
 pub part_sound : (b n : ℕ) (f : ℕ → Cell) → ((k : ℕ) → held (f k) < 256) → Sound (part_cells b n f)
 part_sound b n f h =
-    cond_both (b % 4 == 0 && (n % 4 == 0 && not (n == 0))) _ _ (λ r. Sound (where_accepted r (cells_from b n f)))
-    (λ _. cond_both (nat_le (b + n) (2 ^ 32)) _ _ (λ r. Sound (where_accepted r (cells_from b n f))) (λ e. cells_sound b n f (leb-true (b + n) (2 ^ 32) e) h) (λ _. nothing_sound))
+    cond_both (b % 4 == 0 && (n % 4 == 0 && not (n == 0))) _ _ (λ r. Sound (by_check r (cells_from b n f) nothing))
+    (λ _. cond_both (nat_le (b + n) (2 ^ 32)) _ _ (λ r. Sound (by_check r (cells_from b n f) nothing)) (λ e. cells_sound b n f (leb-true (b + n) (2 ^ 32) e) h) (λ _. nothing_sound))
     (λ _. nothing_sound)

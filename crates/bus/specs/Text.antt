@@ -6,7 +6,7 @@ use Rattle.bus.specs.declared.access.Access.{Access}
 use Rattle.bus.specs.declared.board.Span.{Span}
 use Rattle.bus.specs.declared.refusal.Refusal.{Refusal}
 use Rattle.bus.specs.declared.refusal.BoardRefusal.{BoardRefusal}
-use Rattle.bus.specs.Refusals.{refusal_number, refusal_address, board_number}
+use Rattle.bus.specs.Refusals.{refusal_number, refusal_address, board_refusal_number}
 
 -- digits with zeros before them, k in all where they are not more
 abbrev pub zeros_before : ℕ → List ℕ → List ℕ
@@ -19,9 +19,12 @@ address_text at = codes "0x" ++ zeros_before 8 (digits 16 true at.0)
 abbrev pub access_text : Access → List ℕ
 access_text access = address_text access.at ++ (codes " " ++ decimal access.width)
 
--- the length in upper-case hexadecimal digits
+-- upper-case hexadecimal digits
+abbrev pub number_text : ℕ → List ℕ
+number_text n = codes "0x" ++ digits 16 true n
+
 abbrev pub span_text : Span → List ℕ
-span_text span = address_text span.base ++ (codes " 0x" ++ digits 16 true span.length)
+span_text span = address_text span.base ++ (codes " " ++ number_text span.length)
 
 abbrev pub place_text : Option PhysAddr → List ℕ
 place_text None = []
@@ -31,4 +34,4 @@ abbrev pub refusal_text : Refusal → List ℕ
 refusal_text e = codes "refused " ++ (decimal (refusal_number e) ++ place_text (refusal_address e))
 
 abbrev pub board_refusal_text : BoardRefusal → List ℕ
-board_refusal_text e = codes "refused " ++ decimal (board_number e)
+board_refusal_text e = codes "refused " ++ decimal (board_refusal_number e)

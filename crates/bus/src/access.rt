@@ -79,7 +79,7 @@ impl Access {
         self.check().is_ok()
     }
 
-    // Why it is refused where nothing is.
+    // How it is refused where every address is absent.
     pub fn missing(self) -> Refusal
         ensures { Err result ≡ read_of nothing self.at.0 self.width }
     {

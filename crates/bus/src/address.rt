@@ -1,6 +1,6 @@
 // An address on the bus. It is a type of its own, so that neither a program's virtual address nor a frame number passes for one.
-ghost use Rattle.std.specs.Prelude.{◌≡◌, ◌+◌, ◌%◌, ◌^◌, Some};
-ghost use Rattle.bus.specs.Memory.{address};
+ghost use Rattle.std.specs.Prelude.{◌≡◌, Some};
+ghost use Rattle.bus.specs.Memory.{address_after};
 ghost use Rattle.bus.specs.Text.{address_text};
 
 use std::fmt;
@@ -11,7 +11,7 @@ pub struct PhysAddr(pub u32);
 impl PhysAddr {
     // The address so many bytes further; behind the last comes the first.
     pub fn wrapping_add(self, bytes: u32) -> PhysAddr
-        ensures { result ≡ address ((self.0 + bytes) % 2 ^ 32) }
+        ensures { result ≡ address_after self bytes }
     {
         PhysAddr(self.0.wrapping_add(bytes))
     }

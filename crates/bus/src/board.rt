@@ -1,13 +1,13 @@
-// What the numbers that a board is built of have to be, and which addresses a part has.
+// What the numbers that a board is built of have to be.
 ghost use Rattle.std.specs.Prelude.{◌≡◌, Some};
-ghost use Rattle.bus.specs.Board.{range_check, border_check, offset_in};
+ghost use Rattle.bus.specs.Board.{range_check, border_check};
 ghost use Rattle.bus.specs.Text.{span_text};
 
 use crate::address::PhysAddr;
-use crate::reach::Reach;
 use crate::refusal::BoardRefusal;
 use std::fmt;
 
+// How many addresses there are.
 const SPACE: u64 = 0x1_0000_0000;
 
 // `length` bytes from `base` on, where a part lies.
@@ -36,13 +36,6 @@ impl Span {
         } else {
             Ok(())
         }
-    }
-
-    // How far `at` lies behind the base, if the part there has it. One made of refused numbers has nothing.
-    pub fn offset_of(self, at: PhysAddr) -> Option<u32>
-        ensures { result ≡ offset_in self.base.0 self.length at.0 }
-    {
-        Reach::new(self).offset_of(at)
     }
 }
 

@@ -22,11 +22,11 @@ pub trait Bus {
     // What each physical address holds.
     ghost byte: { Self → Memory };
 
-    // No address lies past the last, and every cell holds a byte.
+    // Nothing lies at 2^32 or above, and every cell holds a byte.
     ghost sound: { (s : Self) → Sound (byte s) };
 
-    // What no call changes: where the parts lie, whose memory was lent to them, and what lies behind the bus without being
-    // shown. So a call cannot touch what it does not name, and a caller that lent memory to a bank knows what it holds once
+    // What no call changes: where the parts lie, whose memory was lent to them, and what lies behind the bus and is not shown
+    // as it is. So a call cannot touch what it does not name, and a caller that lent memory to a bank knows what it holds once
     // the bank is gone.
     ghost layout: { Self → List Fixture };
 

@@ -1,6 +1,6 @@
 // Why a bus call, or the making of a board, is refused.
 ghost use Rattle.std.specs.Prelude.{◌≡◌, Some};
-ghost use Rattle.bus.specs.Refusals.{refusal_number, refusal_address, board_number};
+ghost use Rattle.bus.specs.Refusals.{refusal_number, refusal_address, board_refusal_number};
 ghost use Rattle.bus.specs.Text.{refusal_text, board_refusal_text};
 
 use crate::address::PhysAddr;
@@ -64,7 +64,7 @@ pub enum BoardRefusal {
 
 impl BoardRefusal {
     pub fn number(self) -> u32
-        ensures { result ≡ board_number self }
+        ensures { result ≡ board_refusal_number self }
     {
         self as u32
     }

@@ -5,26 +5,20 @@ use Rattle.bus.specs.declared.refusal.Refusal.{Refusal}
 use Rattle.bus.specs.Memory.{Memory, is_absent, is_fixed, within, write_of, answer_of, memory_after}
 use Rattle.bus.specs.Rules.{NoneNamed, Replaced, WriteRule, misaligned, missing, unwritable, written}
 use Rattle.bus.proofs.Accesses.{within_bounds}
-use Rattle.bus.proofs.Ruling.{without_names, write_rule}
+use Rattle.bus.proofs.Ruling.{write_rule, unnamed_kept}
 use Rattle.calls.specs.declared.call.Call.{Call}
 use Rattle.calls.specs.declared.call.Call.TheVariants.{Read, Write}
 use Rattle.calls.specs.Calls.{memory_through}
 use Rattle.calls.specs.Laws.{writes, Lasting}
 
--- what a write of w bytes at a does not change
-record Once (m : Memory) (a w : ℕ) (n : Memory) : Type 0 where
-  unnamed : (x : ℕ) → within a w x ≡ false → n x ≡ m x
-  kept : (x : ℕ) → is_fixed (m x) ≡ true → n x ≡ m x
-  absence : (x : ℕ) → is_absent (n x) ≡ is_absent (m x)
-  fixity : (x : ℕ) → is_fixed (n x) ≡ is_fixed (m x)
+unchanged : (m : Memory) (named : ℕ → Bool) → Lasting m named m
+unchanged m named = record { unnamed = λ x e. refl; kept = λ x e. refl; absence = λ x. refl; fixity = λ x. refl }
 
-unchanged : (m : Memory) (a w : ℕ) → Once m a w m
-unchanged m a w = record { unnamed = λ x e. refl; kept = λ x e. refl; absence = λ x. refl; fixity = λ x. refl }
-
+-- one write, which names the w bytes from a on
 module _ (m : Memory) (a w v : ℕ) where
-  replaced_once : (n : Memory) → NoneNamed is_absent m a w → NoneNamed is_fixed m a w → Replaced m a w v n → Once m a w n
-  replaced_once n here free r = record {
-    unnamed = λ x e. r.others x (without_names a w x e);
+  replaced_lasting : (n : Memory) → ((x : ℕ) → within a w x ≡ false → n x ≡ m x) → NoneNamed is_absent m a w → NoneNamed is_fixed m a w → Replaced m a w v n → Lasting m (within a w) n
+  replaced_lasting n others here free r = record {
+    unnamed = others;
     kept = λ x e. kept_at x (within a w x) refl e;
     absence = λ x. absence_at x (within a w x) refl;
     fixity = λ x. fixity_at x (within a w x) refl;
@@ -32,34 +26,31 @@ module _ (m : Memory) (a w v : ℕ) where
     where
       kept_at : (x : ℕ) (t : Bool) → within a w x ≡ t → is_fixed (m x) ≡ true → n x ≡ m x
       kept_at x true e q = absurd (both_ways (is_fixed (m x)) (free x (within_bounds a w x e)) q)
-      kept_at x false e q = r.others x (without_names a w x e)
+      kept_at x false e q = others x e
 
       absence_at : (x : ℕ) (t : Bool) → within a w x ≡ t → is_absent (n x) ≡ is_absent (m x)
       absence_at x true e = ap is_absent (r.named x (within_bounds a w x e)) ∙ sym (here x (within_bounds a w x e))
-      absence_at x false e = ap is_absent (r.others x (without_names a w x e))
+      absence_at x false e = ap is_absent (others x e)
 
       fixity_at : (x : ℕ) (t : Bool) → within a w x ≡ t → is_fixed (n x) ≡ is_fixed (m x)
       fixity_at x true e = ap is_fixed (r.named x (within_bounds a w x e)) ∙ sym (free x (within_bounds a w x e))
-      fixity_at x false e = ap is_fixed (r.others x (without_names a w x e))
+      fixity_at x false e = ap is_fixed (others x e)
 
-  ruled_once : (r : Result (Unit {0}) Refusal) (n : Memory) → WriteRule m a w v r n → Once m a w n
-  ruled_once r n (misaligned e s t) = unchanged m a w
-  ruled_once r n (missing e x s l t) = unchanged m a w
-  ruled_once r n (unwritable e x s h l t) = unchanged m a w
-  ruled_once r n (written k s h f q) = replaced_once k h f q
+  ruled_lasting : (r : Result (Unit {0}) Refusal) (n : Memory) → WriteRule m a w v r n → Lasting m (within a w) n
+  ruled_lasting r n (misaligned e s t) = unchanged m (within a w)
+  ruled_lasting r n (missing e x s l t) = unchanged m (within a w)
+  ruled_lasting r n (unwritable e x s h l t) = unchanged m (within a w)
+  ruled_lasting r n (written k s h f q) = replaced_lasting k (unnamed_kept m a w v r k (written k s h f q)) h f q
 
-  write_once : Once m a w (memory_after m (write_of m a w v))
-  write_once = ruled_once (answer_of (write_of m a w v)) (memory_after m (write_of m a w v)) (write_rule m a w v (answer_of (write_of m a w v)) (memory_after m (write_of m a w v)) (record { answer = refl; after = refl }))
+  write_lasting : Lasting m (within a w) (memory_after m (write_of m a w v))
+  write_lasting =
+      ruled_lasting (answer_of (write_of m a w v)) (memory_after m (write_of m a w v)) (write_rule m a w v (answer_of (write_of m a w v)) (memory_after m (write_of m a w v)) (record { answer = refl; after = refl }))
 
--- where nothing changes, all of it stays
-unmoved : (m : Memory) (cs : List Call) → Lasting m cs m
-unmoved m cs = record { unnamed = λ x e. refl; kept = λ x e. refl; absence = λ x. refl; fixity = λ x. refl }
-
-pub lasting : (m : Memory) (cs : List Call) → Lasting m cs (memory_through m cs)
-lasting m [] = unmoved m []
-lasting m (Read a ∷ cs) = let rest = lasting m cs in record { unnamed = rest.unnamed; kept = rest.kept; absence = rest.absence; fixity = rest.fixity }
+pub lasting : (m : Memory) (cs : List Call) → Lasting m (writes cs) (memory_through m cs)
+lasting m [] = unchanged m (writes [])
+lasting m (Read a ∷ cs) = lasting m cs
 lasting m (Write a v ∷ cs) =
-    let one = write_once m a.at.0 a.width v in
+    let one = write_lasting m a.at.0 a.width v in
     let rest = lasting (memory_after m (write_of m a.at.0 a.width v)) cs in
     record {
       unnamed = λ x e. let parts = or_parts (within a.at.0 a.width x) (writes cs x) e in rest.unnamed x parts.1 ∙ one.unnamed x parts.0;

@@ -1,5 +1,5 @@
 pub mod Making
 pub mod SoFar
-pub mod Settling
+pub mod GivingBack
 pub mod Lasting
 pub mod ReadingBack

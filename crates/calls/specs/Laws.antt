@@ -22,17 +22,16 @@ writes [] x = false
 writes (Read a ∷ cs) x = writes cs x
 writes (Write a v ∷ cs) x = within a.at.0 a.width x || writes cs x
 
--- whatever the list of calls that leads from m to n: no byte changes that no write of it names, no fixed byte changes,
--- and none becomes absent, fixed or open that was not so
-pub record Lasting (m : Memory) (cs : List Call) (n : Memory) : Type 0 where
-  pub unnamed : (x : ℕ) → writes cs x ≡ false → n x ≡ m x
+-- from m to n no byte changes that is not named, no fixed byte changes, and none becomes absent, fixed or open that was not so
+pub record Lasting (m : Memory) (named : ℕ → Bool) (n : Memory) : Type 0 where
+  pub unnamed : (x : ℕ) → named x ≡ false → n x ≡ m x
   pub kept : (x : ℕ) → is_fixed (m x) ≡ true → n x ≡ m x
   pub absence : (x : ℕ) → is_absent (n x) ≡ is_absent (m x)
   pub fixity : (x : ℕ) → is_fixed (n x) ≡ is_fixed (m x)
 
 -- memory that was lent to a bank at b as xs and comes back as ys, where m is what the bank meant at its end: byte by byte what
 -- the bank showed, and as it was where the bank showed nothing
-pub record Settled (b : ℕ) (xs : List ℕ) (m : Memory) (ys : List ℕ) : Type 0 where
+pub record GivenBack (b : ℕ) (xs : List ℕ) (m : Memory) (ys : List ℕ) : Type 0 where
   pub as_long : length ys ≡ length xs
   pub shown : range_check b (length xs) ≡ Ok tt → (k : ℕ) → k < length xs → slice_index ys k ≡ held (m (b + k))
   pub refused : (e : BoardRefusal) → range_check b (length xs) ≡ Err e → ys ≡ xs

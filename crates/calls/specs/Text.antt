@@ -1,15 +1,10 @@
 -- How calls and answers are written.
-use Rattle.std.specs.Prelude.{ℕ, List, ◌++◌, true, codes, Ok, Err}
-use Rattle.std.specs.Fmt.{digits}
-use Rattle.bus.specs.Text.{access_text, refusal_text}
+use Rattle.std.specs.Prelude.{ℕ, List, ◌++◌, codes, Ok, Err}
+use Rattle.bus.specs.Text.{number_text, access_text, refusal_text}
 use Rattle.calls.specs.declared.call.Call.{Call}
 use Rattle.calls.specs.declared.call.Call.TheVariants.{Read, Write}
 use Rattle.calls.specs.declared.call.Answer.{Answer}
 use Rattle.calls.specs.declared.call.Answer.TheVariants as answer
-
--- in upper-case hexadecimal digits
-abbrev pub number_text : ℕ → List ℕ
-number_text n = codes "0x" ++ digits 16 true n
 
 abbrev pub call_text : Call → List ℕ
 call_text (Read a) = codes "read " ++ access_text a

@@ -1,7 +1,7 @@
 // Calls made on any bus.
 ghost use Rattle.std.specs.Prelude.{◌≡◌, IfOk, MatchResult};
-ghost use Rattle.calls.specs.Calls.{answer_to, memory_of, answers_to, memory_through};
-ghost use Rattle.calls.specs.Laws.{ByRule, Lasting};
+ghost use Rattle.calls.specs.Calls.{answer_to, memory_after_call, answers_to, memory_through};
+ghost use Rattle.calls.specs.Laws.{ByRule, writes, Lasting};
 
 use crate::call::{Answer, Call};
 use bus::Bus;
@@ -10,7 +10,7 @@ use std::alloc::{AllocError, Global};
 // Makes one call.
 pub fn perform<B: Bus>(bus: &mut B, call: Call) -> Answer
     ensures answer { result ≡ answer_to (B.byte bus.old) call }
-    ensures after { B.byte bus.new ≡ memory_of (B.byte bus.old) call }
+    ensures after { B.byte bus.new ≡ memory_after_call (B.byte bus.old) call }
     ensures kept { B.layout bus.new ≡ B.layout bus.old }
     ensures rule { ByRule (B.byte bus.old) call result (B.byte bus.new) }
 {
@@ -29,7 +29,7 @@ pub fn perform_all<B: Bus>(
     ensures answers { IfOk result (λ v. v.items ≡ answers_to (B.byte bus.old) calls.now) }
     ensures after { MatchResult result (λ _. B.byte bus.new ≡ memory_through (B.byte bus.old) calls.now) (λ _. B.byte bus.new ≡ B.byte bus.old) }
     ensures kept { B.layout bus.new ≡ B.layout bus.old }
-    ensures lasting { Lasting (B.byte bus.old) calls.now (B.byte bus.new) }
+    ensures lasting { Lasting (B.byte bus.old) (writes calls.now) (B.byte bus.new) }
 {
     let mut answers = Vec::with_capacity(alloc, calls.len())?;
     for call in calls {

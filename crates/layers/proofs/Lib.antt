@@ -1,4 +1,4 @@
-pub mod Views
+pub mod SameAddresses
 pub mod Shifting
 pub mod Splitting
 pub mod Locking

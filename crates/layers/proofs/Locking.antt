@@ -2,16 +2,17 @@
 use Rattle.std.proofs.Common.{◌≡◌, ℕ, zero, suc, ◌-◌, Bool, true, false, cond, Some, None, Ok, Err, Result, refl, sym, ap, ◌∙◌}
 use Rattle.std.proofs.lemmas.Bool.{cond-true, cond-false, and_from, not_from_false}
 use Rattle.std.specs.Option.{is_some}
+use Rattle.bus.specs.declared.refusal.BoardRefusal.{BoardRefusal}
 use Rattle.bus.specs.declared.refusal.Refusal.{Refusal}
 use Rattle.bus.specs.declared.refusal.Refusal.TheVariants.{Misaligned, Absent, Fixed}
 use Rattle.bus.specs.Cell.{Cell, absent, fixed, writable}
 use Rattle.bus.specs.Memory.{Memory, address, aligned, within, is_absent, is_fixed, unless_any, value_at, read_of, write_of, answer_of, put}
-use Rattle.bus.specs.Board.{range_check, is_accepted, where_accepted, offset_where, offset_in}
+use Rattle.bus.specs.Board.{range_check, is_accepted, nothing, by_check, offset_in}
 use Rattle.bus.specs.Layout.{hidden_cells}
 use Rattle.bus.proofs.Accesses.{stays_outside, Accepted, accepted, offset_none, Written, written_same}
 use Rattle.bus.proofs.Ruling.{hidden_kept}
 use Rattle.layers.specs.Layers.{locked, locked_from, lock_cells, shown_unlocked}
-use Rattle.layers.proofs.Views.{written_over}
+use Rattle.layers.proofs.SameAddresses.{written_over}
 
 -- one cell of a read and of a write, which refuse it alike
 refused_here : {X Y : Type 0} (t : Bool) (d e : Refusal) (p : Result X Refusal) (r : Result Y Refusal) → (Err e ≡ p → Err e ≡ r) → Err e ≡ cond t (Err d) p → Err e ≡ cond t (Err d) r
@@ -37,14 +38,6 @@ present_alike : {X Y : Type 0} (m : Memory) (a n : ℕ) (x y : X) (r : Result Y 
 present_alike m a zero x y r q = refl
 present_alike m a (suc n) x y r q =
     passed_here (is_absent (m a)) (Absent (address a)) y (unless_any is_absent Absent m (suc a) n (Ok x)) (unless_any is_absent Absent m (suc a) n r) r (present_alike m (suc a) n x y r) q
-
-pub refused_alike : (m : Memory) (a w v : ℕ) (e : Refusal) → Err e ≡ read_of m a w → Err e ≡ answer_of (write_of m a w v)
-refused_alike m a w v e = by_fit (aligned a w)
-  where
-    by_fit : (t : Bool) → Err e ≡ cond t (unless_any is_absent Absent m a w (Ok (value_at m a w))) (Err Misaligned)
-        → Err e ≡ answer_of (cond t (unless_any is_absent Absent m a w (unless_any is_fixed Fixed m a w (Ok (put m a w v)))) (Err Misaligned))
-    by_fit true q = ap answer_of (absent_alike m a w (value_at m a w) (unless_any is_fixed Fixed m a w (Ok (put m a w v))) e q)
-    by_fit false q = cc
 
 locked_absent : (t : Bool) (c : Cell) → is_absent (cond t (locked c) c) ≡ is_absent c
 locked_absent true absent = refl
@@ -74,28 +67,35 @@ module _ (b n : ℕ) (m : Memory) where
       let there : is_absent (m a) ≡ false = not_refused (is_absent (m a)) (Absent (address a)) x (unless_any is_absent Absent m (suc a) w (Ok y)) q in
       cond-true (is_fixed (locked_from b n m a)) _ _ (ap (λ t. is_fixed (cond t (locked (m a)) (m a))) inside ∙ locked_fixed (m a) there)
 
-module _ (b n : ℕ) (checked : Ok tt ≡ range_check b n) (m : Memory) where
-  lock_is : (f : Memory) → lock_cells b n f ≡ locked_from b n f
-  lock_is f = ap (λ r. where_accepted r (locked_from b n f)) (sym checked)
+accepted_check : (r : Result (Unit {0}) BoardRefusal) → is_accepted r ≡ true → Ok tt ≡ r
+accepted_check (Ok _) e = refl
+accepted_check (Err _) e = absurd cc
+
+module _ (b n : ℕ) (taken : is_accepted (range_check b n) ≡ true) (m : Memory) where
+  checked : Ok tt ≡ range_check b n
+  checked = accepted_check (range_check b n) taken
+
+  lock_accepted : (f : Memory) → lock_cells b n f ≡ locked_from b n f
+  lock_accepted f = ap (λ r. by_check r (locked_from b n f) nothing) (sym checked)
 
   range : Accepted b n
   range = accepted b n (sym checked)
 
   module _ (a w v : ℕ) where
     stays_out : None ≡ offset_in b n a → aligned a w ≡ true → (x : ℕ) → within a w x ≡ true → within b n x ≡ false
-    stays_out outside fit x e = stays_outside b n a w x range.even_base range.even_length fit e (offset_none b n a (sym checked) outside)
+    stays_out outside fit x e = stays_outside b n a w x range.base_by_4 range.length_by_4 fit e (offset_none b n a (sym checked) outside)
 
     pub outside_write : None ≡ offset_in b n a → (r : Result (Unit {0}) Refusal) (f : Memory) → Written m a w v r f → Written (lock_cells b n m) a w v r (lock_cells b n f)
     outside_write outside r f h =
-        written_same (locked_from b n m) (lock_cells b n m) (locked_from b n f) (lock_cells b n f) a w v r (sym (lock_is m)) (lock_is f)
+        written_same (locked_from b n m) (lock_cells b n m) (locked_from b n f) (lock_cells b n f) a w v r (sym (lock_accepted m)) (lock_accepted f)
         (written_over (λ x c. cond (within b n x) (locked c) c) m a w v
         (λ fit x e c. cond-false _ _ _ (stays_out outside fit x e)) r f h)
 
     pub outside_hidden : None ≡ offset_in b n a → (r : Result (Unit {0}) Refusal) (f : Memory) → Written m a w v r f → hidden_cells (shown_unlocked b n) f ≡ hidden_cells (shown_unlocked b n) m
-    outside_hidden outside r f h = hidden_kept (shown_unlocked b n) m a w v (λ fit x e. and_from _ _ (ap is_accepted (sym checked)) (not_from_false _ (stays_out outside fit x e))) r f h
+    outside_hidden outside r f h = hidden_kept (shown_unlocked b n) m a w v (λ fit x e. and_from _ _ taken (not_from_false _ (stays_out outside fit x e))) r f h
 
     pub below_refused : (e : Refusal) → Err e ≡ read_of m a w → Err e ≡ answer_of (write_of (lock_cells b n m) a w v)
-    below_refused e q = by_fit (aligned a w) q ∙ sym (ap (λ f. answer_of (write_of f a w v)) (lock_is m))
+    below_refused e q = by_fit (aligned a w) q ∙ sym (ap (λ f. answer_of (write_of f a w v)) (lock_accepted m))
       where
         by_fit : (t : Bool) → Err e ≡ cond t (unless_any is_absent Absent m a w (Ok (value_at m a w))) (Err Misaligned)
             → Err e ≡ answer_of (cond t (unless_any is_absent Absent (locked_from b n m) a w (unless_any is_fixed Fixed (locked_from b n m) a w (Ok (put (locked_from b n m) a w v)))) (Err Misaligned))
@@ -105,10 +105,10 @@ module _ (b n : ℕ) (checked : Ok tt ≡ range_check b n) (m : Memory) where
         by_fit false p = cc
 
     inside : is_some (offset_in b n a) ≡ true → within b n a ≡ true
-    inside e = offset_inside (within b n a) (a - b) (ap (λ r. is_some (offset_where r (cond (within b n a) (Some (a - b)) None))) checked ∙ e)
+    inside e = offset_inside (within b n a) (a - b) (ap (λ r. is_some (by_check r (cond (within b n a) (Some (a - b)) None) None)) checked ∙ e)
 
     pub inside_fixed : is_some (offset_in b n a) ≡ true → (x : ℕ) → Ok x ≡ read_of m a w → Err (Fixed (address a)) ≡ answer_of (write_of (lock_cells b n m) a w v)
-    inside_fixed begins x q = by_fit (aligned a w) refl q ∙ sym (ap (λ f. answer_of (write_of f a w v)) (lock_is m))
+    inside_fixed begins x q = by_fit (aligned a w) refl q ∙ sym (ap (λ f. answer_of (write_of f a w v)) (lock_accepted m))
       where
         by_fit : (t : Bool) → aligned a w ≡ t → Ok x ≡ cond t (unless_any is_absent Absent m a w (Ok (value_at m a w))) (Err Misaligned)
             → Err (Fixed (address a)) ≡ answer_of (cond t (unless_any is_absent Absent (locked_from b n m) a w (unless_any is_fixed Fixed (locked_from b n m) a w (Ok (put (locked_from b n m) a w v)))) (Err Misaligned))

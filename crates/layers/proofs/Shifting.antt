@@ -1,89 +1,56 @@
 -- An access to a shift is one to the bus below, base lower.
-use Rattle.std.proofs.Common.{◌≡◌, ℕ, ◌+◌, ◌-◌, ◌%◌, ◌^◌, ◌<◌, ◌≤◌, Bool, true, false, cond, ltb, Some, Result, sym, refl, ap, ◌∙◌, arith}
-use mathlib.Core.Path.{fun_ext}
+use Rattle.std.proofs.Common.{◌≡◌, ℕ, ◌+◌, ◌-◌, ◌%◌, ◌^◌, ◌<◌, true, ltb, Some, Result, sym, refl, ap, ◌∙◌, arith}
 use Rattle.std.proofs.lemmas.Bool.Decides.{nat_tests}
-use Rattle.std.proofs.lemmas.Bool.{cond-true, cond-false, and_from, lt-ltb}
+use Rattle.std.proofs.lemmas.Bool.{cond-true, and_from, lt-ltb}
 use Rattle.bus.specs.declared.refusal.Refusal.{Refusal}
 use Rattle.bus.specs.declared.refusal.Refusal.TheVariants.{Absent, Fixed}
-use Rattle.bus.specs.Cell.{absent, writable}
-use Rattle.bus.specs.Memory.{Memory, address, aligned, within, byte_of, read_of, write_of, answer_of, memory_after, put}
+use Rattle.bus.specs.Memory.{Memory, address, aligned, within, read_of, write_of, answer_of, memory_after, put}
 use Rattle.bus.specs.Board.{is_accepted, cells_from, offset_in}
 use Rattle.bus.specs.Layout.{hidden_cells}
-use Rattle.bus.proofs.Accesses.{within_bounds, stays_inside, Found, offset_found, part_is, Written, written_same}
+use Rattle.bus.proofs.Accesses.{within_bounds, Found, offset_found, begins_in, lies_in, cells_put, part_accepted, Written, written_same}
 use Rattle.bus.proofs.Ruling.{hidden_kept}
+use Rattle.bus.proofs.Views.{seen, AllShown, read_seen, write_seen, seen_answer, seen_after}
 use Rattle.layers.specs.Layers.{shift_cells, moved_by, shown_shifted}
-use Rattle.layers.proofs.Views.{seen, AllShown, read_seen, write_seen, seen_answer, seen_after}
 
 module _ (f : Memory) (b n a w k : ℕ) (place : Found b n a k) where
-  starts : (b ≤ a) × (a < b + n)
-  starts = within_bounds b n a place.begins
-
-  stays : (x : ℕ) → aligned a w ≡ true → within a w x ≡ true → within b n x ≡ true
-  stays x fit named = stays_inside b n a w x place.range.even_base place.range.even_length fit named place.begins
-
   fits_alike : aligned a w ≡ aligned k w
-  fits_alike = let p = place.offset in let s = starts in let e = place.range.even_base in grind (arith, nat_tests)
+  fits_alike = let p = place.offset in let s = begins_in b n a k place in let e = place.range.base_by_4 in grind (arith, nat_tests)
 
   names : (j : ℕ) → a + j < 2 ^ 32 → a + j ≡ ((k + j) + b) % 2 ^ 32
-  names j l = omega (arith, starts.0, place.offset)
+  names j l = omega (arith, (begins_in b n a k place).0, place.offset)
 
   shown : aligned a w ≡ true → AllShown (cells_from b n f) f (moved_by b) a k w
   shown fit j l =
       let named : within a w (a + j) ≡ true = grind (arith, nat_tests) in
-      let covers = stays (a + j) fit named in
+      let covers = lies_in b n a k place w (a + j) fit named in
       let below : a + j < 2 ^ 32 = omega (arith, within_bounds b n (a + j) covers, place.range.inside) in
-      let same : (a + j) - b ≡ k + j = omega (arith, starts.0, place.offset) in
+      let same : (a + j) - b ≡ k + j = omega (arith, (begins_in b n a k place).0, place.offset) in
       record {
         cell = cond-true _ _ _ covers ∙ ap f same;
-        missing = ap (λ x. Absent (address x)) (names j below);
-        kept = ap (λ x. Fixed (address x)) (names j below);
+        absent_named = ap (λ x. Absent (address x)) (names j below);
+        fixed_named = ap (λ x. Fixed (address x)) (names j below);
       }
-
-  puts : (v : ℕ) → aligned a w ≡ true → cells_from b n (put f k w v) ≡ put (cells_from b n f) a w v
-  puts v fit = fun_ext (λ x. go x (within a w x) refl)
-    where
-      go : (x : ℕ) (t : Bool) → within a w x ≡ t → cells_from b n (put f k w v) x ≡ put (cells_from b n f) a w v x
-      go x true e =
-          let p = place.offset in
-          let s = starts in
-          let l = within_bounds a w x e in
-          let q : within k w (x - b) ≡ true = grind (arith, nat_tests) in
-          let same : (x - b) - k ≡ x - a = omega (arith, starts.0, place.offset) in
-          cond-true _ _ _ (stays x fit e)
-          ∙ cond-true _ _ _ q
-          ∙ ap (λ i. writable (byte_of v i)) same
-          ∙ sym (cond-true _ _ _ e)
-      go x false e = past (within b n x) refl ∙ sym (cond-false _ _ _ e)
-        where
-          past : (t : Bool) → within b n x ≡ t → cells_from b n (put f k w v) x ≡ cells_from b n f x
-          past true u =
-              let p = place.offset in
-              let s = starts in
-              let l = within_bounds b n x u in
-              let q : within k w (x - b) ≡ false = grind (arith, nat_tests) in
-              ap (λ c. cond (within b n x) c absent) (cond-false _ _ _ q)
-          past false u = cond-false _ _ _ u ∙ sym (cond-false _ _ _ u)
 
   cells_read : read_of (cells_from b n f) a w ≡ seen (moved_by b) (λ v. v) (read_of f k w)
   cells_read = read_seen (cells_from b n f) f (moved_by b) a k w fits_alike refl shown
 
   cells_write : (v : ℕ) → write_of (cells_from b n f) a w v ≡ seen (moved_by b) (cells_from b n) (write_of f k w v)
-  cells_write v = write_seen (cells_from b n f) f (moved_by b) a k w fits_alike refl shown (cells_from b n) v (puts v)
+  cells_write v = write_seen (cells_from b n f) f (moved_by b) a k w fits_alike refl shown (cells_from b n) (put f k w v) v (cells_put b n a k place f w v)
 
 -- a shift of f, and an access that lies k behind its base
 module _ (f : Memory) (b n a w k : ℕ) (offset : Some k ≡ offset_in b n a) where
   place : Found b n a k
   place = offset_found b n a k offset
 
-  is : (g : Memory) → shift_cells b n g ≡ cells_from b n g
-  is g = part_is b n g place.range.checked
+  shift_accepted : (g : Memory) → shift_cells b n g ≡ cells_from b n g
+  shift_accepted g = part_accepted b n g place.range.checked
 
   pub read_shown : (r : Result ℕ Refusal) → r ≡ read_of f k w → seen (moved_by b) (λ v. v) r ≡ read_of (shift_cells b n f) a w
-  read_shown r e = ap (seen (moved_by b) (λ v. v)) e ∙ sym (cells_read f b n a w k place) ∙ sym (ap (λ m. read_of m a w) (is f))
+  read_shown r e = ap (seen (moved_by b) (λ v. v)) e ∙ sym (cells_read f b n a w k place) ∙ sym (ap (λ m. read_of m a w) (shift_accepted f))
 
   pub written_shown : (v : ℕ) (r : Result (Unit {0}) Refusal) (g : Memory) → Written f k w v r g → Written (shift_cells b n f) a w v (seen (moved_by b) (λ u. u) r) (shift_cells b n g)
   written_shown v r g h =
-      written_same (cells_from b n f) (shift_cells b n f) (cells_from b n g) (shift_cells b n g) a w v (seen (moved_by b) (λ u. u) r) (sym (is f)) (is g)
+      written_same (cells_from b n f) (shift_cells b n f) (cells_from b n g) (shift_cells b n g) a w v (seen (moved_by b) (λ u. u) r) (sym (shift_accepted f)) (shift_accepted g)
       (record {
         answer = ap (seen (moved_by b) (λ u. u)) h.answer ∙ sym (ap answer_of (cells_write f b n a w k place v) ∙ seen_answer (moved_by b) (cells_from b n) (write_of f k w v));
         after = ap (cells_from b n) h.after ∙ sym (ap (memory_after (cells_from b n f)) (cells_write f b n a w k place v) ∙ seen_after (moved_by b) (cells_from b n) f (write_of f k w v));
@@ -98,5 +65,5 @@ module _ (f : Memory) (b n a w k : ℕ) (offset : Some k ≡ offset_in b n a) wh
           let s = within_bounds b n a place.begins in
           let p = within_bounds k w x e in
           let named : within a w (x + b) ≡ true = grind (arith, nat_tests) in
-          let q = within_bounds b n (x + b) (stays f b n a w k place (x + b) (fits_alike f b n a w k place ∙ fit) named) in
+          let q = within_bounds b n (x + b) (lies_in b n a k place w (x + b) (fits_alike f b n a w k place ∙ fit) named) in
           lt-ltb x n (omega arith)

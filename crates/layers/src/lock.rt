@@ -35,14 +35,18 @@ impl<B: Bus> Bus for Lock<B> {
 
     #[inline(always)]
     fn read(&mut self, access: Access) -> Result<u32, Refusal> {
-        self.span.check().map_err(|_| access.missing())?;
+        if !self.span.is_accepted() {
+            return Err(access.missing());
+        }
         self.inner.read(access)
     }
 
     // Inside the span a write is refused as a read is, and where a read is answered, as fixed.
     #[inline(always)]
     fn write(&mut self, access: Access, value: u32) -> Result<(), Refusal> {
-        self.span.check().map_err(|_| access.missing())?;
+        if !self.span.is_accepted() {
+            return Err(access.missing());
+        }
         if self.span.offset_of(access.at).is_none() {
             return self.inner.write(access, value);
         }

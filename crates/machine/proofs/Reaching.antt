@@ -1,9 +1,10 @@
 -- What a step asks for, an address reaches.
-use Rattle.std.proofs.Common.{◌≡◌, ℕ, ◌+◌, ◌-◌, ◌%◌, ◌^◌, ◌<◌, Bool, true, false, ◌||◌, ◌⊎◌, inl, inr, ⊎_elim, Ok, Err, Result, IfOk, refl, sym, ap, subst, ◌∙◌, arith, mod-lt, lit<, eqb}
-use Rattle.std.proofs.lemmas.Bool.{or_cases, eqb-true}
+use Rattle.std.proofs.Common.{◌≡◌, ℕ, ◌+◌, ◌-◌, ◌%◌, ◌^◌, ◌<◌, Bool, true, false, inl, inr, Ok, Err, Result, IfOk, refl, sym, ap, subst, ◌∙◌, arith, mod-lt, lit<, eqb}
+use Rattle.std.proofs.lemmas.Bool.{eqb-true}
 use Rattle.bus.specs.declared.address.PhysAddr.{PhysAddr}
 use Rattle.bus.specs.Memory.{Memory, is_width}
 use Rattle.bus.specs.Rules.{Names, Stands}
+use Rattle.bus.proofs.Ruling.{width_cases}
 use Rattle.pages.specs.declared.address.VirtAddr.{VirtAddr}
 use Rattle.pages.specs.declared.access_kind.AccessKind.{AccessKind}
 use Rattle.pages.specs.declared.access_kind.AccessKind.TheVariants as kind
@@ -38,12 +39,6 @@ located s k w at to is = go (eqb (low_32_bits at % w) 0) refl (translated s k (l
     go true e (Err fault) f h = absurd cc
     go false e r f h = absurd cc
 
-pub wide : (w : ℕ) → is_width w ≡ true → (w ≡ 1) ⊎ ((w ≡ 2) ⊎ (w ≡ 4))
-wide w e =
-    ⊎_elim (λ p. inl (eqb-true w 1 p))
-    (λ q. inr (⊎_elim (λ p. inl (eqb-true w 2 p)) (λ p. inr (eqb-true w 4 p)) (or_cases (eqb w 2) (eqb w 4) q)))
-    (or_cases (eqb w 1) (eqb w 2 || eqb w 4) e)
-
 module _ (s : State) (user : s.registers.mode.plv ≡ Plv3) where
   same_mode : s.registers.mode ≡ in_plv3 s.registers.mode
   same_mode = ap (λ level. record s.registers.mode { plv = level }) user
@@ -52,7 +47,7 @@ module _ (s : State) (user : s.registers.mode.plv ≡ Plv3) where
   byte_reached k w to x led_to names =
       let at = led_to.at in
       let found = located s k w at to led_to.leads in
-      let stands : Stands (low_32_bits at) w = (wide w led_to.is_wide, found.aligned) in
+      let stands : Stands (low_32_bits at) w = (width_cases w led_to.is_wide, found.aligned) in
       let word : low_32_bits at < 2 ^ 32 = mod-lt at.0 (lit< tt) in
       let within : x - to.0 < w = omega (arith, names) in
       let there : to.0 + (x - to.0) ≡ x = omega (arith, names) in

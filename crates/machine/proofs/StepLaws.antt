@@ -5,7 +5,7 @@ use Rattle.bus.specs.declared.address.PhysAddr.{PhysAddr}
 use Rattle.bus.specs.declared.refusal.Refusal.{Refusal}
 use Rattle.bus.specs.Rules.{Stands, ReadRule, WriteRule}
 use Rattle.bus.specs.Rules as rule
-use Rattle.bus.proofs.Ruling.{read_rule, write_rule}
+use Rattle.bus.proofs.Ruling.{width_cases, read_rule, write_rule}
 use Rattle.bus.specs.Memory.{Sound, answer_of, memory_after, Memory, read_of, write_of}
 use Rattle.bus.specs.Refusals.{refusal_number, refusal_address}
 use Rattle.pages.specs.declared.access_kind.AccessKind.{AccessKind}
@@ -31,7 +31,7 @@ use Rattle.machine.specs.Step.{at_levels, keeps_waiting, awake, by_waiting, acte
 use Rattle.machine.specs.Isolation.{CallsBus, by_fetch, by_access, Asks, by_call, StepIsolated, Confined}
 use Rattle.machine.specs.Laws.{RefusedFor, missing, unwritable, Refused, IfException, HandlerBegins, InterruptTaken}
 use Rattle.machine.proofs.Ways.{Way, raises, goes, supervises, writes, unread, unwritten, Led, led, each_way}
-use Rattle.machine.proofs.Reaching.{low_32_bits, Located, located, wide}
+use Rattle.machine.proofs.Reaching.{low_32_bits, Located, located}
 use Rattle.machine.proofs.Confining.{confined}
 use Rattle.machine.proofs.Alikes.{step_isolated}
 
@@ -52,7 +52,7 @@ place_stands s k w to led_to =
     let same : SameOffset (low_32_bits at) to.0
     = subst (λ (r : Result Place PageFault). IfOk r (λ p. SameOffset (low_32_bits at) p.0.0)) found.leads
     (same_offset s.registers.mode s.registers.windows s.tlb k (low_32_bits at)) in
-    (wide w led_to.is_wide, same_multiple to.0 (low_32_bits at) w (wide w led_to.is_wide) same found.aligned)
+    (width_cases w led_to.is_wide, same_multiple to.0 (low_32_bits at) w (width_cases w led_to.is_wide) same found.aligned)
 
 module _ (s : State) (levels : ℕ) (m : Memory) where
   -- an answer that the bus's rules give and that is a refusal

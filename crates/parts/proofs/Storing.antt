@@ -1,15 +1,14 @@
 -- What a write to a part over a list leaves.
-use Rattle.std.proofs.Common.{◌≡◌, ℕ, zero, suc, ◌+◌, ◌-◌, ◌%◌, ◌<◌, ◌≤◌, Bool, true, false, cond, List, length, get_or, Some, None, Ok, Err, Result, sym, refl, ap, ◌∙◌, ⊎_elim, arith}
-use mathlib.Core.Path.{fun_ext}
+use Rattle.std.proofs.Common.{◌≡◌, ℕ, zero, suc, ◌-◌, ◌%◌, Bool, true, false, cond, List, [], length, get_or, Some, None, Ok, Err, Result, sym, refl, ap, ◌∙◌, arith}
 use Rattle.std.proofs.lemmas.Bool.Decides.{nat_tests}
-use Rattle.std.proofs.lemmas.Bool.{cond-true, cond-false, cases_Bool}
+use Rattle.std.proofs.lemmas.Bool.{cond-true, cond-false}
 use Rattle.bus.specs.declared.refusal.BoardRefusal.{BoardRefusal}
 use Rattle.bus.specs.declared.refusal.Refusal.TheVariants.{Absent}
 use Rattle.bus.specs.Cell.{Cell, absent, writable}
 use Rattle.bus.specs.Memory.{Memory, address, aligned, within, is_absent, byte_of, write_of, put}
-use Rattle.bus.specs.Board.{range_check, where_accepted, offset_where, cells_from, part_cells, offset_in}
-use Rattle.bus.proofs.Accesses.{within_bounds, stays_inside, write_writable, Found, offset_found, part_is, Written, written_by, written_same}
-use Rattle.parts.specs.Parts.{byte_cell, bank_cells, hidden_where, hidden_bytes}
+use Rattle.bus.specs.Board.{range_check, nothing, by_check, cells_from, part_cells, offset_in}
+use Rattle.bus.proofs.Accesses.{write_writable, Found, offset_found, is_put, lies_in, cells_put, part_accepted, Written, written_by, written_same}
+use Rattle.parts.specs.Parts.{byte_cell, bank_cells, hidden_bytes}
 
 -- a part has nothing at an address without an offset into it
 absent_part : (b n : ℕ) (f : ℕ → Cell) (a : ℕ) → None ≡ offset_in b n a → part_cells b n f a ≡ absent
@@ -19,7 +18,7 @@ absent_part b n f a outside = by_range (range_check b n) outside
     by_place true q = cc
     by_place false q = refl
 
-    by_range : (r : Result (Unit {0}) BoardRefusal) → None ≡ offset_where r (cond (within b n a) (Some (a - b)) None) → where_accepted r (cells_from b n f) a ≡ absent
+    by_range : (r : Result (Unit {0}) BoardRefusal) → None ≡ by_check r (cond (within b n a) (Some (a - b)) None) None → by_check r (cells_from b n f) nothing a ≡ absent
     by_range (Ok _) q = by_place (within b n a) q
     by_range (Err e) q = refl
 
@@ -35,39 +34,17 @@ outside_written b xs a w v fit outside = absent_written (bank_cells b xs) a w v 
 -- n cells from b on, of the list xs, and an access that begins in them
 module _ (b n : ℕ) (xs ys : List ℕ) (a w v i : ℕ) (place : Found b n a i) (fit : aligned a w ≡ true)
     (stored : (k : ℕ) → get_or ys k 0 ≡ cond (within i w k) (byte_of v (k - i)) (get_or xs k 0)) where
-  inside : (x : ℕ) → within a w x ≡ true → within b n x ≡ true
-  inside x t = stays_inside b n a w x place.range.even_base place.range.even_length fit t place.begins
-
-  starts : (b ≤ a) × (a < b + n)
-  starts = within_bounds b n a place.begins
-
   done : write_of (cells_from b n (byte_cell writable xs)) a w v ≡ Ok (put (cells_from b n (byte_cell writable xs)) a w v)
-  done = write_writable (cells_from b n (byte_cell writable xs)) a w v fit (λ x p q. (get_or xs (x - b) 0 % 256, cond-true _ _ _ (inside x (grind (arith, nat_tests)))))
+  done = write_writable (cells_from b n (byte_cell writable xs)) a w v fit (λ x p q. (get_or xs (x - b) 0 % 256, cond-true _ _ _ (lies_in b n a i place w x fit (grind (arith, nat_tests)))))
+
+  cells_stored : byte_cell writable ys ≡ put (byte_cell writable xs) i w v
+  cells_stored = is_put (byte_cell writable xs) (byte_cell writable ys) i w v named (λ k t. ap (λ y. writable (y % 256)) (stored k ∙ cond-false _ _ _ t))
+    where
+      named : (k : ℕ) → within i w k ≡ true → byte_cell writable ys k ≡ writable (byte_of v (k - i))
+      named k t = ap (λ y. writable (y % 256)) (stored k ∙ cond-true _ _ _ t) ∙ ap writable (omega arith)
 
   replaced : cells_from b n (byte_cell writable ys) ≡ put (cells_from b n (byte_cell writable xs)) a w v
-  replaced = fun_ext (λ x. ⊎_elim (named x) (other x) (cases_Bool (within a w x)))
-    where
-      named : (x : ℕ) → within a w x ≡ true → cells_from b n (byte_cell writable ys) x ≡ put (cells_from b n (byte_cell writable xs)) a w v x
-      named x t =
-          let p : (a ≤ x) × (x < a + w) = within_bounds a w x t in
-          let o = place.offset in
-          let s = starts in
-          let q : within i w (x - b) ≡ true = grind (arith, nat_tests) in
-          let k : (x - b) - i ≡ x - a = omega arith in
-          let byte : get_or ys (x - b) 0 % 256 ≡ byte_of v (x - a) = ap (λ y. y % 256) (stored (x - b) ∙ cond-true _ _ _ q ∙ ap (byte_of v) k) ∙ omega arith in
-          cond-true _ _ _ (inside x t) ∙ ap writable byte ∙ sym (cond-true _ _ _ t)
-
-      other : (x : ℕ) → within a w x ≡ false → cells_from b n (byte_cell writable ys) x ≡ put (cells_from b n (byte_cell writable xs)) a w v x
-      other x t = go (within b n x) refl ∙ sym (cond-false _ _ _ t)
-        where
-          go : (u : Bool) → within b n x ≡ u → cells_from b n (byte_cell writable ys) x ≡ cells_from b n (byte_cell writable xs) x
-          go true e =
-              let p : (b ≤ x) × (x < b + n) = within_bounds b n x e in
-              let o = place.offset in
-              let s = starts in
-              let q : within i w (x - b) ≡ false = grind (arith, nat_tests) in
-              ap (λ y. cond (within b n x) (writable (y % 256)) absent) (stored (x - b) ∙ cond-false _ _ _ q)
-          go false e = cond-false _ _ _ e ∙ sym (cond-false _ _ _ e)
+  replaced = ap (cells_from b n) cells_stored ∙ cells_put b n a i place (byte_cell writable xs) w v fit
 
   cells_written : Written (cells_from b n (byte_cell writable xs)) a w v (Ok tt) (cells_from b n (byte_cell writable ys))
   cells_written = written_by (cells_from b n (byte_cell writable xs)) (cells_from b n (byte_cell writable ys)) a w v (Ok (put (cells_from b n (byte_cell writable xs)) a w v)) done replaced
@@ -81,9 +58,9 @@ module _ (b : ℕ) (xs ys : List ℕ) (a w v i : ℕ) (fit : aligned a w ≡ tru
   pub bank_written : Written (bank_cells b xs) a w v (Ok tt) (bank_cells b ys)
   bank_written =
       written_same (cells_from b (length xs) (byte_cell writable xs)) (bank_cells b xs) (cells_from b (length xs) (byte_cell writable ys)) (bank_cells b ys) a w v (Ok tt)
-      (sym (part_is b (length xs) (byte_cell writable xs) place.range.checked))
-      (ap (λ n. where_accepted (range_check b n) (cells_from b n (byte_cell writable ys))) as_long ∙ part_is b (length xs) (byte_cell writable ys) place.range.checked)
+      (sym (part_accepted b (length xs) (byte_cell writable xs) place.range.checked))
+      (ap (λ n. by_check (range_check b n) (cells_from b n (byte_cell writable ys)) nothing) as_long ∙ part_accepted b (length xs) (byte_cell writable ys) place.range.checked)
       (cells_written b (length xs) xs ys a w v i place fit stored)
 
   pub bank_hidden : hidden_bytes b ys ≡ hidden_bytes b xs
-  bank_hidden = ap (λ n. hidden_where (range_check b n) ys) as_long ∙ ap (λ r. hidden_where r ys) place.range.checked ∙ sym (ap (λ r. hidden_where r xs) place.range.checked)
+  bank_hidden = ap (λ n. by_check (range_check b n) [] ys) as_long ∙ ap (λ r. by_check r [] ys) place.range.checked ∙ sym (ap (λ r. by_check r [] xs) place.range.checked)

@@ -1,7 +1,7 @@
 -- Little-endian numbers in a list of bytes.
-use Rattle.std.specs.Prelude.{ℕ, zero, suc, ◌+◌, ◌*◌, List, slice_index}
+use Rattle.std.specs.Prelude.{ℕ, List, slice_index}
+use Rattle.bus.specs.Memory.{little_endian}
 
--- the number in the n bytes from i on, the lowest first
+-- the number in the n bytes from i on
 abbrev pub number_at : List ℕ → ℕ → ℕ → ℕ
-number_at xs i zero = 0
-number_at xs i (suc n) = slice_index xs i + 256 * number_at xs (suc i) n
+number_at xs i n = little_endian (slice_index xs) i n

@@ -1,9 +1,8 @@
 -- What the parts at the bottom of a board hold.
-use Rattle.std.specs.Prelude.{ℕ, ◌%◌, List, [], length, replicate, Ok, Err, Result, slice_index}
-use Rattle.bus.specs.declared.refusal.BoardRefusal.{BoardRefusal}
+use Rattle.std.specs.Prelude.{ℕ, ◌%◌, List, [], length, replicate, slice_index}
 use Rattle.bus.specs.Cell.{Cell, fixed, writable}
 use Rattle.bus.specs.Memory.{Memory}
-use Rattle.bus.specs.Board.{range_check, part_cells}
+use Rattle.bus.specs.Board.{range_check, by_check, part_cells}
 
 -- the k-th byte of a list, in a cell of the given kind
 abbrev pub byte_cell : (ℕ → Cell) → List ℕ → ℕ → Cell
@@ -22,9 +21,5 @@ abbrev pub port_cells : ℕ → Memory
 port_cells b = bank_cells b (replicate 64 0)
 
 -- the bytes of a bank's memory that it does not show: all, where its numbers are refused
-abbrev pub hidden_where : Result (Unit {0}) BoardRefusal → List ℕ → List ℕ
-hidden_where (Ok _) xs = []
-hidden_where (Err e) xs = xs
-
 abbrev pub hidden_bytes : ℕ → List ℕ → List ℕ
-hidden_bytes b xs = hidden_where (range_check b (length xs)) xs
+hidden_bytes b xs = by_check (range_check b (length xs)) [] xs

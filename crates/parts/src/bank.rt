@@ -10,36 +10,30 @@ use bus::{Access, Bus, PhysAddr, Reach, Refusal};
 // The caller's memory, from a base on, open.
 #[derive(Drop)]
 pub struct Bank<'a> {
-    base: PhysAddr,
     memory: &'a mut [u8],
-    // Of the base and as many bytes.
+    // Where the memory lies: as many bytes as it has, from the base on.
     reach: Reach,
-    ghost starts: { reach.base ≡ base },
     ghost spans: { reach.length ≡ length memory.now },
 }
 
 impl<'a> Bank<'a> {
     pub fn new(base: PhysAddr, memory: &'a mut [u8]) -> Bank<'a>
-        ensures cells { bank_cells result.base.0 result.memory.now ≡ bank_cells base.0 memory.old }
-        ensures base { result.base ≡ base }
+        ensures cells { bank_cells result.reach.base.0 result.memory.now ≡ bank_cells base.0 memory.old }
+        ensures base { result.reach.base ≡ base }
         ensures memory { result.memory.now ≡ memory.old }
         ensures lender { result.memory.ghost_name ≡ memory.entry.ghost_name }
     {
         let reach = lent::reach(base, memory);
-        Bank {
-            base,
-            memory,
-            reach,
-        }
+        Bank { memory, reach }
     }
 }
 
 impl Bus for Bank<'_> {
-    ghost byte = { λ s. bank_cells s.base.0 s.memory.now };
+    ghost byte = { λ s. bank_cells s.reach.base.0 s.memory.now };
 
-    ghost sound = { λ s. bank_sound s.base.0 s.memory.now };
+    ghost sound = { λ s. bank_sound s.reach.base.0 s.memory.now };
 
-    ghost layout = { λ s. number s.base.0 ∷ number s.memory.ghost_name ∷ bytes (hidden_bytes s.base.0 s.memory.now) ∷ [] };
+    ghost layout = { λ s. number s.reach.base.0 ∷ number s.memory.ghost_name ∷ bytes (hidden_bytes s.reach.base.0 s.memory.now) ∷ [] };
 
     fn read(&mut self, access: Access) -> Result<u32, Refusal> {
         // Lent as `&mut`, since a shared loan out of `&mut self` would leave the bytes unknown to the proof.

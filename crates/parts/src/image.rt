@@ -10,35 +10,29 @@ use bus::{Access, Bus, PhysAddr, Reach, Refusal};
 // The caller's memory, from a base on, fixed.
 #[derive(Drop)]
 pub struct Image<'a> {
-    base: PhysAddr,
     memory: &'a [u8],
-    // Of the base and as many bytes.
+    // Where the memory lies: as many bytes as it has, from the base on.
     reach: Reach,
-    ghost starts: { reach.base ≡ base },
     ghost spans: { reach.length ≡ length memory.now },
 }
 
 impl<'a> Image<'a> {
     pub fn new(base: PhysAddr, memory: &'a [u8]) -> Image<'a>
-        ensures cells { image_cells result.base.0 result.memory.now ≡ image_cells base.0 memory.now }
-        ensures base { result.base ≡ base }
+        ensures cells { image_cells result.reach.base.0 result.memory.now ≡ image_cells base.0 memory.now }
+        ensures base { result.reach.base ≡ base }
         ensures memory { result.memory.now ≡ memory.now }
     {
         let reach = lent::reach(base, memory);
-        Image {
-            base,
-            memory,
-            reach,
-        }
+        Image { memory, reach }
     }
 }
 
 impl Bus for Image<'_> {
-    ghost byte = { λ s. image_cells s.base.0 s.memory.now };
+    ghost byte = { λ s. image_cells s.reach.base.0 s.memory.now };
 
-    ghost sound = { λ s. image_sound s.base.0 s.memory.now };
+    ghost sound = { λ s. image_sound s.reach.base.0 s.memory.now };
 
-    ghost layout = { λ s. number s.base.0 ∷ [] };
+    ghost layout = { λ s. number s.reach.base.0 ∷ [] };
 
     fn read(&mut self, access: Access) -> Result<u32, Refusal> {
         lent::read(&self.reach, self.memory, access)

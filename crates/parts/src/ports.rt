@@ -12,40 +12,37 @@ const PORT_BYTES: usize = 64;
 // 64 open bytes from a base on, first zero.
 #[derive(Drop)]
 pub struct Ports {
-    base: PhysAddr,
-    cells: [u8; PORT_BYTES],
-    // Of the base and as many bytes.
+    memory: [u8; PORT_BYTES],
+    // Where the memory lies: as many bytes as it has, from the base on.
     reach: Reach,
-    ghost starts: { reach.base ≡ base },
-    ghost spans: { reach.length ≡ length cells },
+    ghost spans: { reach.length ≡ length memory },
 }
 
 impl Ports {
     pub fn new(base: PhysAddr) -> Ports
-        ensures cells { bank_cells result.base.0 result.cells ≡ port_cells base.0 }
-        ensures base { result.base ≡ base }
+        ensures cells { bank_cells result.reach.base.0 result.memory ≡ port_cells base.0 }
+        ensures base { result.reach.base ≡ base }
     {
-        let cells = [0; PORT_BYTES];
+        let memory = [0; PORT_BYTES];
         Ports {
-            base,
-            reach: lent::reach(base, &cells),
-            cells,
+            reach: lent::reach(base, &memory),
+            memory,
         }
     }
 }
 
 impl Bus for Ports {
-    ghost byte = { λ s. bank_cells s.base.0 s.cells };
+    ghost byte = { λ s. bank_cells s.reach.base.0 s.memory };
 
-    ghost sound = { λ s. bank_sound s.base.0 s.cells };
+    ghost sound = { λ s. bank_sound s.reach.base.0 s.memory };
 
-    ghost layout = { λ s. number s.base.0 ∷ [] };
+    ghost layout = { λ s. number s.reach.base.0 ∷ [] };
 
     fn read(&mut self, access: Access) -> Result<u32, Refusal> {
-        lent::read(&self.reach, &self.cells, access)
+        lent::read(&self.reach, &self.memory, access)
     }
 
     fn write(&mut self, access: Access, value: u32) -> Result<(), Refusal> {
-        lent::write(&self.reach, &mut self.cells, access, value)
+        lent::write(&self.reach, &mut self.memory, access, value)
     }
 }

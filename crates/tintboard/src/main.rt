@@ -18,6 +18,8 @@ const ROM: PhysAddr = PhysAddr(0x1c00_0000);
 
 const DEVICES: PhysAddr = PhysAddr(0x1fe0_0000);
 
+const LATCH: PhysAddr = PhysAddr(0x1fe0_0100);
+
 // Twice as long as the port block behind it, so that half of the window shows nothing.
 const WINDOW_BYTES: u64 = 128;
 
@@ -73,9 +75,9 @@ fn check_numbers(rt: &HostRuntime) -> anyhow::Result<()> {
 fn use_devices<B: Bus>(rt: &HostRuntime, board: &mut B) -> anyhow::Result<()> {
     println!(rt; "image and ports")?;
     let list = [
-        read(0x1c00_0000, 4),
+        read(ROM.0, 4),
         read(0x1c00_0006, 2),
-        read(0x1fe0_0000, 4),
+        read(DEVICES.0, 4),
         write(0x1fe0_003c, 4, 0xcafe_f00d),
         read(0x1fe0_003e, 2),
     ];
@@ -121,13 +123,13 @@ fn try_locked<B: Bus + Drop>(rt: &HostRuntime, board: &mut B) -> anyhow::Result<
 // A device whose bytes are not all alike: a refusal names the lowest byte at fault, and not the address of the call.
 fn try_across(rt: &HostRuntime) -> anyhow::Result<()> {
     println!(rt; "across a device's end")?;
-    let mut window = Shift::new(Span::new(PhysAddr(0x1fe0_0100), 4), Latch::new(0x42));
+    let mut window = Shift::new(Span::new(LATCH, 4), Latch::new(0x42));
     let list = [
-        write(0x1fe0_0100, 1, 5),
-        read(0x1fe0_0100, 2),
-        write(0x1fe0_0100, 2, 5),
-        read(0x1fe0_0100, 4),
-        write(0x1fe0_0100, 4, 5),
+        write(LATCH.0, 1, 5),
+        read(LATCH.0, 2),
+        write(LATCH.0, 2, 5),
+        read(LATCH.0, 4),
+        write(LATCH.0, 4, 5),
     ];
     show::calls(rt, &mut window, &list)
 }
@@ -136,11 +138,15 @@ fn try_across(rt: &HostRuntime) -> anyhow::Result<()> {
 fn try_unusable(rt: &HostRuntime) -> anyhow::Result<()> {
     println!(rt; "made of refused numbers")?;
     let mut memory = [0u8; 8];
-    let odd = PhysAddr(2);
+    let unaligned = PhysAddr(2);
     let zero = PhysAddr(0);
-    show::calls(rt, &mut Image::new(odd, &[0; 8]), &[read(4, 4)])?;
-    show::calls(rt, &mut Ports::new(odd), &[read(4, 4)])?;
-    show::calls(rt, &mut Bank::new(odd, &mut memory), &[write(4, 4, 1)])?;
+    show::calls(rt, &mut Image::new(unaligned, &[0; 8]), &[read(4, 4)])?;
+    show::calls(rt, &mut Ports::new(unaligned), &[read(4, 4)])?;
+    show::calls(
+        rt,
+        &mut Bank::new(unaligned, &mut memory),
+        &[write(4, 4, 1)],
+    )?;
     show::calls(
         rt,
         &mut Shift::new(Span::new(zero, 6), Ports::new(zero)),
@@ -151,11 +157,11 @@ fn try_unusable(rt: &HostRuntime) -> anyhow::Result<()> {
         &mut Lock::new(Span::new(zero, 6), Ports::new(zero)),
         &[read(0, 4)],
     )?;
-    let mut split = Split::new(odd, Ports::new(zero), Ports::new(zero));
+    let mut split = Split::new(unaligned, Ports::new(zero), Ports::new(zero));
     show::calls(rt, &mut split, &[write(0, 4, 1)])
 }
 
-// A call on a bank that ends with it, and what the memory holds then.
+// One call on a bank, and what its memory holds once the bank is gone.
 fn keep_memory(rt: &HostRuntime) -> anyhow::Result<()> {
     println!(rt; "memory afterwards")?;
     let mut memory = [0x11u8; 8];

@@ -3,7 +3,8 @@ use bus::{BoardRefusal, Bus, PhysAddr, Span, check_border};
 use calls::{Call, perform_all};
 use std::io;
 
-fn made(rt: &HostRuntime, checked: Result<(), BoardRefusal>) -> io::Result<()> {
+// Whether the numbers are accepted, as the end of a line.
+fn print_check(rt: &HostRuntime, checked: Result<(), BoardRefusal>) -> io::Result<()> {
     match checked {
         Ok(()) => println!(rt; "accepted"),
         Err(refusal) => println!(rt; "{refusal}"),
@@ -12,12 +13,12 @@ fn made(rt: &HostRuntime, checked: Result<(), BoardRefusal>) -> io::Result<()> {
 
 pub(crate) fn range(rt: &HostRuntime, span: Span) -> io::Result<()> {
     print!(rt; "range {span}: ")?;
-    made(rt, span.check())
+    print_check(rt, span.check())
 }
 
 pub(crate) fn border(rt: &HostRuntime, border: PhysAddr) -> io::Result<()> {
     print!(rt; "border {border}: ")?;
-    made(rt, check_border(border))
+    print_check(rt, check_border(border))
 }
 
 // Makes the calls on the bus, and prints each with its answer.

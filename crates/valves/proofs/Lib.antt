@@ -1,2 +1,2 @@
-mod Words
-mod Cells
+pub mod Words
+pub mod Cells

@@ -1,6 +1,5 @@
 -- An access inside one word of a device: what it reads, and what a write leaves.
 use Rattle.std.proofs.Common.{◌≡◌, ℕ, zero, suc, ◌+◌, ◌-◌, ◌*◌, ◌/◌, ◌%◌, ◌<◌, ◌≤◌, Bool, true, false, eqb, Ok, sym, refl, ap, ◌∙◌, arith}
-use mathlib.Core.Path.{fun_ext}
 use Rattle.std.proofs.lemmas.Bool.Decides.{Decides-eqb, nat_tests}
 use Rattle.std.proofs.lemmas.Bool.{cond-true, cond-false, cond_both}
 use Rattle.bus.specs.declared.access.Width.{Width}
@@ -8,7 +7,7 @@ use Rattle.bus.specs.declared.access.Width.TheVariants.{Byte, Half, Word}
 use Rattle.bus.specs.Cell.{writable}
 use Rattle.bus.specs.Memory.{Memory, aligned, within, is_absent, held, byte_of, read_of, write_of, put, value_at}
 use Rattle.bus.specs.Width.{width_bytes, access_check}
-use Rattle.bus.proofs.Accesses.{within_bounds, access_checked, write_writable, Written, written_by}
+use Rattle.bus.proofs.Accesses.{within_bounds, access_checked, is_put, write_writable, Written, written_by}
 use Rattle.valves.specs.Bytes.{bytes_from, spliced, word_of}
 
 -- two bytes of a word, taken together
@@ -110,11 +109,7 @@ module _ (m after : Memory) (w w' a n v : ℕ) (width : Width) (checked : Ok wid
       go false e = elsewhere x (λ q. let z : eqb (x / 4) (a / 4) ≡ true = (Decides-eqb (x / 4) (a / 4)).1 q in absurd cc)
 
   replaced : after ≡ put m a n v
-  replaced = fun_ext (λ x. go x (within a n x) refl)
-    where
-      go : (x : ℕ) (t : Bool) → within a n x ≡ t → after x ≡ put m a n v x
-      go x true e = inside x e ∙ sym (cond-true _ _ _ e)
-      go x false e = outside x e ∙ sym (cond-false _ _ _ e)
+  replaced = is_put m after a n v inside outside
 
   pub word_written : Written m a n v (Ok tt) after
   word_written = written_by m after a n v (Ok (put m a n v)) done replaced

@@ -1,6 +1,6 @@
 -- The bytes of a word that an access names. Only inner contracts cite this.
-use Rattle.std.specs.Prelude.{ℕ, ◌+◌, ◌-◌, ◌*◌, ◌/◌, ◌%◌, ◌^◌, cond}
-use Rattle.bus.specs.Memory.{within, byte_of}
+use Rattle.std.specs.Prelude.{ℕ, ◌-◌, ◌/◌, ◌%◌, ◌^◌, cond}
+use Rattle.bus.specs.Memory.{within, byte_of, little_endian}
 
 -- the number in the n bytes of a word from byte first on
 abbrev pub bytes_from : ℕ → ℕ → ℕ → ℕ
@@ -12,4 +12,4 @@ spliced w first n v k = cond (within first n k) (byte_of v (k - first)) (byte_of
 
 -- the word whose byte k is f k
 abbrev pub word_of : (ℕ → ℕ) → ℕ
-word_of f = f 0 + 256 * f 1 + 256 ^ 2 * f 2 + 256 ^ 3 * f 3
+word_of f = little_endian f 0 4

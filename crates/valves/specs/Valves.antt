@@ -26,15 +26,18 @@ valve_cells v a =
 abbrev pub at_rest : Valves
 at_rest = record { channel = 0; shots = 0; poured = 0; status = Ready }
 
--- there are 16 channels
-abbrev pub has_channel : Valves → Bool
-has_channel v = nat_lt v.channel 16
+-- how many channels there are
+abbrev pub channels : ℕ
+channels = 16
 
--- an order of no shots is none
+abbrev pub has_channel : Valves → Bool
+has_channel v = nat_lt v.channel channels
+
+-- what is to be poured: nothing where no shots are ordered, or for a channel that there is not
 abbrev pub pour_of : Valves → Option Pour
 pour_of v = cond (v.shots == 0 || not (has_channel v)) None (Some (record { channel = v.channel; shots = v.shots }))
 
--- the shots poured count up to the greatest number of a word
+-- afterwards an order is gone, carried out or not; the shots poured count up to the greatest number of a word
 abbrev pub after_pour : Valves → Valves
 after_pour v =
     cond (v.shots == 0) v

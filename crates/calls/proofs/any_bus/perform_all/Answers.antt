@@ -1,7 +1,7 @@
 use Rattle.std.proofs.Common.{refl, sym, subst, ◌∙◌, arith}
-use Rattle.calls.specs.Laws.{Lasting}
+use Rattle.calls.specs.Laws.{writes, Lasting}
 use Rattle.calls.proofs.Lasting.{lasting}
-use Rattle.calls.proofs.SoFar.{none_made, one_made, all_answered, all_led}
+use Rattle.calls.proofs.SoFar.{none_made, one_made, all_answered, at_end}
 use Rattle.calls.proofs.any_bus.perform_all.Goals as goal
 
 pub loop-call-init : goal.loop-call-init
@@ -29,10 +29,10 @@ returns-clause-answers g c =
 
 pub returns-clause-after : goal.returns-clause-after
 returns-clause-after g c =
-    all_led c.args.calls.now (g.B.Bus.byte c.args.bus.now) c.loop-call.call-index c.loop-call.answers.items (g.B.Bus.byte c.loop-call.bus) c.loop-call-test.false c.loop-call.invariant.0
+    at_end c.args.calls.now (g.B.Bus.byte c.args.bus.now) c.loop-call.call-index c.loop-call.answers.items (g.B.Bus.byte c.loop-call.bus) c.loop-call-test.false c.loop-call.invariant.0
 
 pub returns-clause-lasting : goal.returns-clause-lasting
 returns-clause-lasting g c =
     let m = g.B.Bus.byte c.args.bus.now in
     let cs = c.args.calls.now in
-    subst (Lasting m cs) (sym (returns-clause-after g c)) (lasting m cs)
+    subst (Lasting m (writes cs)) (sym (returns-clause-after g c)) (lasting m cs)

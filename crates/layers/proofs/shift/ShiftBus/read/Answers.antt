@@ -1,8 +1,8 @@
 use Rattle.std.proofs.Common.{rules, ◌≡◌, Some, ◌∙◌}
 use Rattle.bus.specs.Memory.{read_of}
 use Rattle.bus.specs.Board.{offset_in}
+use Rattle.bus.proofs.Views.{seen}
 use Rattle.layers.specs.Layers.{moved_by}
-use Rattle.layers.proofs.Views.{seen}
 use Rattle.layers.proofs.Shifting.{read_shown}
 use Rattle.layers.proofs.shift.ShiftBus.read.Goals as goal
 

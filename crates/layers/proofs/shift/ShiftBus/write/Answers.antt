@@ -2,8 +2,8 @@ use Rattle.std.proofs.Common.{rules, ◌≡◌, ◌∷◌, Some, ◌∙◌}
 use Rattle.bus.specs.Board.{offset_in}
 use Rattle.bus.specs.Layout.{number, cells}
 use Rattle.bus.proofs.Accesses.{Written}
+use Rattle.bus.proofs.Views.{seen}
 use Rattle.layers.specs.Layers.{moved_by}
-use Rattle.layers.proofs.Views.{seen}
 use Rattle.layers.proofs.Shifting.{written_shown, shift_hidden}
 use Rattle.layers.proofs.shift.ShiftBus.write.Goals as goal
 

@@ -12,9 +12,9 @@ returns-then-access-self g c =
     let lo = g.L.Bus.byte s.low in
     let hi = g.R.Bus.byte s.high in
     let told = c.read.ensures in
-    let even : s.border.0 % 4 ≡ 0 = grind (arith, nat_tests) in
+    let border_by_4 : s.border.0 % 4 ≡ 0 = grind (arith, nat_tests) in
     record {
-      value = low_read s.border.0 even lo hi a.at.0 a.width (omega arith) c.read.result told.value;
+      value = low_read s.border.0 border_by_4 lo hi a.at.0 a.width (omega arith) c.read.result told.value;
       same = ap (λ m. split_cells s.border.0 m hi) told.same;
       kept = λ i. number s.border.0 ∷ cells (hidden_cells (shown_low s.border.0) (told.same i)) ∷ cells (hidden_cells (shown_high s.border.0) hi) ∷ (told.kept i ++ g.R.Bus.layout s.high);
     }
@@ -26,9 +26,9 @@ returns-else-access-self g c =
     let lo = g.L.Bus.byte s.low in
     let hi = g.R.Bus.byte s.high in
     let told = c.read-else-access-self.ensures in
-    let even : s.border.0 % 4 ≡ 0 = grind (arith, nat_tests) in
+    let border_by_4 : s.border.0 % 4 ≡ 0 = grind (arith, nat_tests) in
     record {
-      value = high_read s.border.0 even lo hi a.at.0 a.width (omega arith) c.read-else-access-self.result told.value;
+      value = high_read s.border.0 border_by_4 lo hi a.at.0 a.width (omega arith) c.read-else-access-self.result told.value;
       same = ap (split_cells s.border.0 lo) told.same;
       kept = λ i. number s.border.0 ∷ cells (hidden_cells (shown_low s.border.0) lo) ∷ cells (hidden_cells (shown_high s.border.0) (told.same i)) ∷ (g.L.Bus.layout s.low ++ told.kept i);
     }

@@ -5,10 +5,10 @@ use Rattle.std.proofs.lemmas.Bool.{cond-true}
 use Rattle.bus.specs.Cell.{writable}
 use Rattle.bus.specs.Layout.{number, bytes}
 use Rattle.bus.specs.Memory.{Memory, held, within}
-use Rattle.bus.specs.Board.{range_check}
-use Rattle.bus.proofs.Accesses.{part_is}
-use Rattle.parts.specs.Parts.{byte_cell, bank_cells, hidden_where, hidden_bytes}
-use Rattle.calls.specs.Laws.{Settled}
+use Rattle.bus.specs.Board.{range_check, by_check}
+use Rattle.bus.proofs.Accesses.{part_accepted}
+use Rattle.parts.specs.Parts.{byte_cell, bank_cells, hidden_bytes}
+use Rattle.calls.specs.Laws.{GivenBack}
 
 -- two layouts of a bank that are equal
 pub layout_parts : (b name b' name' : ℕ) (rest rest' : List ℕ) → number b ∷ number name ∷ bytes rest ∷ [] ≡ number b' ∷ number name' ∷ bytes rest' ∷ [] → (b ≡ b') × (name ≡ name') × (rest ≡ rest')
@@ -26,12 +26,12 @@ module _ (b : ℕ) (xs ys : List ℕ) (m : Memory) (as_long : length ys ≡ leng
       let byte : get_or ys k 0 ≡ get_or ys k 0 % 256 = omega (arith, fits k) in
       byte
       ∙ sym (ap (λ j. get_or ys j 0 % 256) place)
-      ∙ sym (ap held (ap (λ f. f (b + k)) (part_is b (length ys) (byte_cell writable ys) accepted) ∙ cond-true (within b (length ys) (b + k)) _ _ (covered k inside)))
+      ∙ sym (ap held (ap (λ f. f (b + k)) (part_accepted b (length ys) (byte_cell writable ys) accepted) ∙ cond-true (within b (length ys) (b + k)) _ _ (covered k inside)))
       ∙ ap (λ f. held (f (b + k))) meant
 
-  pub settled : hidden_bytes b ys ≡ hidden_bytes b xs → Settled b xs m ys
-  settled kept = record {
+  pub given_back : hidden_bytes b ys ≡ hidden_bytes b xs → GivenBack b xs m ys
+  given_back kept = record {
     as_long = as_long;
     shown = byte_shown;
-    refused = λ e q. sym (ap (λ r. hidden_where r ys) (ap (range_check b) as_long ∙ q)) ∙ kept ∙ ap (λ r. hidden_where r xs) q;
+    refused = λ e q. sym (ap (λ r. by_check r [] ys) (ap (range_check b) as_long ∙ q)) ∙ kept ∙ ap (λ r. by_check r [] xs) q;
   }

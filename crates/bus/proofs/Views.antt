@@ -1,16 +1,13 @@
--- An access to a layer is answered as one to the bus below, where the layer shows that bus's cells and names their addresses its own way.
+-- An access to a memory is answered as one to another, where the one shows the cells of the other and names their addresses its own way.
 use Rattle.std.proofs.Common.{◌≡◌, ℕ, zero, suc, ◌+◌, ◌*◌, ◌<◌, Bool, true, false, cond, Ok, Err, Result, sym, refl, ap, ◌∙◌, subst, ap₂, arith}
-use mathlib.Core.Path.{fun_ext}
-use Rattle.std.proofs.lemmas.Bool.Decides.{nat_tests}
 use Rattle.std.proofs.lemmas.Bool.{cond-true, cond-false}
 use Rattle.bus.specs.declared.address.PhysAddr.{PhysAddr}
 use Rattle.bus.specs.declared.refusal.Refusal.{Refusal}
 use Rattle.bus.specs.declared.refusal.Refusal.TheVariants.{Misaligned, Absent, Fixed}
 use Rattle.bus.specs.Cell.{Cell}
-use Rattle.bus.specs.Memory.{Memory, address, held, aligned, within, is_absent, is_fixed, unless_any, value_at, read_of, write_of, answer_of, memory_after, put}
-use Rattle.bus.proofs.Accesses.{Written}
+use Rattle.bus.specs.Memory.{Memory, address, held, aligned, is_absent, is_fixed, unless_any, value_at, read_of, write_of, answer_of, memory_after, put}
 
--- an answer of the bus below, as the layer gives it on
+-- an answer of one memory, as the other gives it on
 abbrev pub seen : {X Y : Type 0} → (Refusal → Refusal) → (X → Y) → Result X Refusal → Result Y Refusal
 seen named up (Ok x) = Ok (up x)
 seen named up (Err e) = Err (named e)
@@ -23,15 +20,19 @@ pub seen_after : (named : Refusal → Refusal) (up : Memory → Memory) (f : Mem
 seen_after named up f (Ok m) = refl
 seen_after named up f (Err e) = refl
 
-seen_same : {X : Type 0} (r : Result X Refusal) → seen (λ e. e) (λ x. x) r ≡ r
+pub seen_same : {X : Type 0} (r : Result X Refusal) → seen (λ e. e) (λ x. x) r ≡ r
 seen_same (Ok x) = refl
 seen_same (Err e) = refl
+
+-- x, unless a write to the w bytes of f from k on is refused
+abbrev pub unless_refused : {X : Type 0} → Memory → ℕ → ℕ → X → Result X Refusal
+unless_refused f k w x = cond (aligned k w) (unless_any is_absent Absent f k w (unless_any is_fixed Fixed f k w (Ok x))) (Err Misaligned)
 
 -- m shows at a what f has at k, and a refusal there is named so
 pub record Shown (m f : Memory) (named : Refusal → Refusal) (a k : ℕ) : Type 0 where
   pub cell : m a ≡ f k
-  pub missing : Absent (address a) ≡ named (Absent (address k))
-  pub kept : Fixed (address a) ≡ named (Fixed (address k))
+  pub absent_named : Absent (address a) ≡ named (Absent (address k))
+  pub fixed_named : Fixed (address a) ≡ named (Fixed (address k))
 
 tested_cell : {X Y : Type 0} (named : Refusal → Refusal) (up : X → Y) (t : Bool) (e d : Refusal) (r : Result X Refusal) → e ≡ named d → cond t (Err e) (seen named up r) ≡ seen named up (cond t (Err d) r)
 tested_cell named up true e d r q = ap Err q
@@ -66,10 +67,10 @@ module _ (m f : Memory) (named : Refusal → Refusal) where
       ∙ tested_cell named up (p (f k)) (refused (address a)) (refused (address k)) (unless_any p refused f (suc k) n r) (pick a k (first a k n h))
 
   present_shown : {X Y : Type 0} (up : X → Y) (a k n : ℕ) (r : Result X Refusal) → AllShown a k n → unless_any is_absent Absent m a n (seen named up r) ≡ seen named up (unless_any is_absent Absent f k n r)
-  present_shown up a k n r h = tested_shown up is_absent Absent (λ x y s. s.missing) a k n r h
+  present_shown up a k n r h = tested_shown up is_absent Absent (λ x y s. s.absent_named) a k n r h
 
   unfixed_shown : {X Y : Type 0} (up : X → Y) (a k n : ℕ) (r : Result X Refusal) → AllShown a k n → unless_any is_fixed Fixed m a n (seen named up r) ≡ seen named up (unless_any is_fixed Fixed f k n r)
-  unfixed_shown up a k n r h = tested_shown up is_fixed Fixed (λ x y s. s.kept) a k n r h
+  unfixed_shown up a k n r h = tested_shown up is_fixed Fixed (λ x y s. s.fixed_named) a k n r h
 
   module _ (a k w : ℕ) (fits_alike : aligned a w ≡ aligned k w) (misfit : Misaligned ≡ named Misaligned) (shown : aligned a w ≡ true → AllShown a k w) where
     pub read_seen : read_of m a w ≡ seen named (λ v. v) (read_of f k w)
@@ -86,47 +87,17 @@ module _ (m f : Memory) (named : Refusal → Refusal) where
             ∙ ap Err misfit
             ∙ sym (ap (seen named (λ v. v)) (cond-false (aligned k w) _ _ (sym fits_alike ∙ e)))
 
-    pub write_seen : (up : Memory → Memory) (v : ℕ) → (aligned a w ≡ true → up (put f k w v) ≡ put m a w v) → write_of m a w v ≡ seen named up (write_of f k w v)
-    write_seen up v puts = go (aligned a w) refl
+    pub write_seen : {X : Type 0} (up : X → Memory) (x : X) (v : ℕ) → (aligned a w ≡ true → up x ≡ put m a w v) → write_of m a w v ≡ seen named up (unless_refused f k w x)
+    write_seen up x v puts = go (aligned a w) refl
       where
-        go : (t : Bool) → aligned a w ≡ t → write_of m a w v ≡ seen named up (write_of f k w v)
+        go : (t : Bool) → aligned a w ≡ t → write_of m a w v ≡ seen named up (unless_refused f k w x)
         go true e =
             cond-true (aligned a w) _ _ e
             ∙ ap (λ n. unless_any is_absent Absent m a w (unless_any is_fixed Fixed m a w (Ok n))) (sym (puts e))
-            ∙ ap (unless_any is_absent Absent m a w) (unfixed_shown up a k w (Ok (put f k w v)) (shown e))
-            ∙ present_shown up a k w (unless_any is_fixed Fixed f k w (Ok (put f k w v))) (shown e)
+            ∙ ap (unless_any is_absent Absent m a w) (unfixed_shown up a k w (Ok x) (shown e))
+            ∙ present_shown up a k w (unless_any is_fixed Fixed f k w (Ok x)) (shown e)
             ∙ sym (ap (seen named up) (cond-true (aligned k w) _ _ (sym fits_alike ∙ e)))
         go false e =
             cond-false (aligned a w) _ _ e
             ∙ ap Err misfit
             ∙ sym (ap (seen named up) (cond-false (aligned k w) _ _ (sym fits_alike ∙ e)))
-
--- A layer that keeps the addresses and shows each cell c of f at x as t x c: an access to cells that it shows as they are is one to f.
-module _ (t : ℕ → Cell → Cell) (f : Memory) (a w : ℕ) (as_is : aligned a w ≡ true → (x : ℕ) → within a w x ≡ true → (c : Cell) → t x c ≡ c) where
-  shown : aligned a w ≡ true → AllShown (λ x. t x (f x)) f (λ e. e) a a w
-  shown fit j l =
-      let named : within a w (a + j) ≡ true = grind (arith, nat_tests) in
-      record { cell = as_is fit (a + j) named (f (a + j)); missing = refl; kept = refl }
-
-  pub read_over : (r : Result ℕ Refusal) → r ≡ read_of f a w → r ≡ read_of (λ x. t x (f x)) a w
-  read_over r told = told ∙ sym (read_seen (λ x. t x (f x)) f (λ e. e) a a w refl refl shown ∙ seen_same (read_of f a w))
-
-module _ (t : ℕ → Cell → Cell) (f : Memory) (a w v : ℕ) (as_is : aligned a w ≡ true → (x : ℕ) → within a w x ≡ true → (c : Cell) → t x c ≡ c) where
-  abbrev pub over : Memory → Memory
-  over g x = t x (g x)
-
-  puts : aligned a w ≡ true → over (put f a w v) ≡ put (over f) a w v
-  puts fit = fun_ext (λ x. go x (within a w x) refl)
-    where
-      go : (x : ℕ) (u : Bool) → within a w x ≡ u → over (put f a w v) x ≡ put (over f) a w v x
-      go x true e = as_is fit x e (put f a w v x) ∙ cond-true (within a w x) _ _ e ∙ sym (cond-true (within a w x) _ _ e)
-      go x false e = ap (t x) (cond-false (within a w x) _ _ e) ∙ sym (cond-false (within a w x) _ _ e)
-
-  write_over : write_of (over f) a w v ≡ seen (λ e. e) over (write_of f a w v)
-  write_over = write_seen (over f) f (λ e. e) a a w refl refl (shown t f a w as_is) over v puts
-
-  pub written_over : (r : Result (Unit {0}) Refusal) (n : Memory) → Written f a w v r n → Written (over f) a w v r (over n)
-  written_over r n h = record {
-    answer = h.answer ∙ sym (ap answer_of write_over ∙ seen_answer (λ e. e) over (write_of f a w v) ∙ seen_same (answer_of (write_of f a w v)));
-    after = ap over h.after ∙ sym (ap (memory_after (over f)) write_over ∙ seen_after (λ e. e) over f (write_of f a w v));
-  }
