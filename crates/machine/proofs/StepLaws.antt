@@ -1,5 +1,5 @@
 -- The laws of a step.
-use Rattle.std.proofs.Common.{◌≡◌, ℕ, ◌%◌, ◌^◌, Bool, true, false, ◌⊎◌, inl, inr, Some, None, Option, Err, Result, IfOk, IfErr, refl, sym, ap, subst, ◌∙◌, arith}
+use Rattle.std.proofs.Common.{◌≡◌, ℕ, ◌%◌, ◌^◌, Bool, true, false, ◌⊎◌, Some, None, Option, Err, Result, IfOk, IfErr, refl, sym, ap, subst, ◌∙◌, arith}
 use Rattle.std.proofs.lemmas.Bool.{both_ways, and_parts}
 use Rattle.bus.specs.declared.address.PhysAddr.{PhysAddr}
 use Rattle.bus.specs.declared.refusal.Refusal.{Refusal}
@@ -17,6 +17,7 @@ use Rattle.csr.specs.Interrupts.{due}
 use Rattle.control.specs.Exceptions.{interrupted}
 use Rattle.translation.specs.Translation.{Place}
 use Rattle.translation.specs.Laws.{SameOffset}
+use Rattle.translation.proofs.OnePage.{of_width}
 use Rattle.translation.proofs.OneAddress.{same_offset}
 use Rattle.actions.specs.declared.action.PrivilegedAction.{PrivilegedAction}
 use Rattle.actions.specs.declared.action.PrivilegedAction.TheVariants.{Csrrd, Csrwr, Csrxchg, Tlb, Invtlb, Ertn, Idle, Cacop}
@@ -36,13 +37,8 @@ use Rattle.machine.proofs.Confining.{confined}
 use Rattle.machine.proofs.Alikes.{step_isolated}
 
 same_multiple : (p at w : ℕ) → (w ≡ 1) ⊎ ((w ≡ 2) ⊎ (w ≡ 4)) → p % 2 ^ 12 ≡ at % 2 ^ 12 → at % w ≡ 0 → p % w ≡ 0
-same_multiple p at w (inl one) same even = subst (λ (n : ℕ). p % n ≡ 0) (sym one) (omega arith)
-same_multiple p at w (inr (inl two)) same even =
-    let here : at % 2 ≡ 0 = subst (λ (n : ℕ). at % n ≡ 0) two even in
-    subst (λ (n : ℕ). p % n ≡ 0) (sym two) (omega arith)
-same_multiple p at w (inr (inr four)) same even =
-    let here : at % 4 ≡ 0 = subst (λ (n : ℕ). at % n ≡ 0) four even in
-    subst (λ (n : ℕ). p % n ≡ 0) (sym four) (omega arith)
+same_multiple p at w is same =
+    of_width (λ n. at % n ≡ 0 → p % n ≡ 0) w is (λ even. omega arith) (λ even. omega arith) (λ even. omega arith)
 
 -- where an access leads, it is aligned too
 place_stands : (s : State) (k : AccessKind) (w : ℕ) (to : PhysAddr) → Led s k w to → Stands to.0 w

@@ -10,7 +10,7 @@ use Rattle.isa.specs.Fields.{reg_of}
 use Rattle.actions.specs.Registers.{gr}
 use Rattle.numerals.specs.Hexadecimal.{hex_value}
 use Rattle.numerals.specs.Decimal.{decimal_value}
-use Rattle.setup.specs.Lines.{Form, write, run, register, form_of}
+use Rattle.setup.specs.Lines.{Form, write, run, register, IsLineOf, form_of}
 use Rattle.setup.proofs.Forms.{exact}
 use Rattle.machine.specs.declared.answers.CallRefusal.TheVariants.{NoRegister}
 use Rattle.machine.specs.Calls.{most_steps, by_length}
@@ -18,7 +18,7 @@ use Rattle.session.specs.declared.session.Stage.{Stage}
 use Rattle.session.specs.declared.session.Stage.TheVariants.{Unreset, Running}
 use Rattle.session.specs.Listings.{Contents, is_full}
 use Rattle.session.specs.Sessions.{Progress, Handled, handled, wrote, write_by_stage, core_to_run, ran, register_answer, register_by_stage, perform_form, counted, read_line}
-use Rattle.session.specs.Refused.{IsLineOf, is_out_of_place, no_form, out_of_place, by_bus, too_long, no_register, Refused}
+use Rattle.session.specs.Refused.{is_out_of_place, no_form, out_of_place, by_bus, too_long, no_register, Refused}
 
 module _ (p : Progress) (listing : Contents) (line : List ℕ) (room : is_full listing ≡ false) where
   abbrev IfRefused : Handled → Type 0
@@ -51,7 +51,7 @@ module _ (p : Progress) (listing : Contents) (line : List ℕ) (room : is_full l
   by_register number is (Running s) e = by_number number (gr s.user.general (reg_of (decimal_value number))) is (ap (is_out_of_place (register number)) e) (nat_lt (decimal_value number) 32) refl
 
   by_form : (f : Option Form) → form_of line ≡ f → IfRefused (perform_form (counted p) f)
-  by_form None e = record { reason = no_form room (λ f is. none-some f (sym e ∙ (exact line).complete f is.0 is.1)); leaves = refl }
+  by_form None e = record { reason = no_form room (λ f is. none-some f (sym e ∙ (exact line).complete f is)); leaves = refl }
   by_form (Some (write address value)) e = by_stage address value ((exact line).sound (write address value) e) p.stage refl
   by_form (Some (run count)) e = by_count count ((exact line).sound (run count) e) (nat_lt most_steps (decimal_value count)) refl
   by_form (Some (register number)) e = by_register number ((exact line).sound (register number) e) p.stage refl

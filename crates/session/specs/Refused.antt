@@ -4,7 +4,7 @@ use Rattle.bus.specs.declared.refusal.Refusal.{Refusal}
 use Rattle.bus.specs.Rules.{WriteRule}
 use Rattle.numerals.specs.Hexadecimal.{hex_value}
 use Rattle.numerals.specs.Decimal.{decimal_value}
-use Rattle.setup.specs.Lines.{Form, write, run, register, line_text, well_formed}
+use Rattle.setup.specs.Lines.{Form, write, run, register, IsLineOf}
 use Rattle.machine.specs.declared.answers.CallRefusal.TheVariants.{NoRegister, RunTooLong}
 use Rattle.machine.specs.Calls.{most_steps}
 use Rattle.session.specs.declared.answer.LineAnswer.TheVariants.{Register}
@@ -15,10 +15,6 @@ use Rattle.session.specs.declared.session.Stage.TheVariants.{Unreset, Running}
 use Rattle.session.specs.Answers.{LineResult}
 use Rattle.session.specs.Listings.{Contents, is_full}
 use Rattle.session.specs.Sessions.{Progress, core_to_run, counted}
-
--- the line has this form, with these fields
-abbrev pub IsLineOf : Form → List ℕ → Type 0
-IsLineOf f line = (well_formed f ≡ true) × (line_text f ≡ line)
 
 -- a `w` after the first `g`, or an `r` before it
 abbrev pub is_out_of_place : Form → Stage → Bool

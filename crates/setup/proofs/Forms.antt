@@ -6,7 +6,7 @@ use Rattle.std.proofs.lemmas.List.{length-append, set-get_or, set_split, take_al
 use Rattle.std.proofs.Math.Seq.{take-append_seam, drop-append-add, get_or-append_seam}
 use Rattle.numerals.specs.Decimal.{is_decimal_field}
 use Rattle.numerals.specs.Hexadecimal.{is_hex_field, all_hex_digits}
-use Rattle.setup.specs.Lines.{Form, write, run, register, line_feed, line_text, well_formed, Exact, form_if, as_write, as_run, as_register, form_by, is_framed, fields_of, form_of}
+use Rattle.setup.specs.Lines.{Form, write, run, register, line_feed, line_text, well_formed, IsLineOf, Exact, form_if, as_write, as_run, as_register, form_by, is_framed, fields_of, form_of}
 
 last_apart : (b : ℕ) (bs : List ℕ) → b ∷ bs ≡ take (length bs) (b ∷ bs) ++ (get_or (b ∷ bs) (length bs) 0 ∷ [])
 last_apart b bs = sym (take_all (length bs + 1) (b ∷ bs) (omega arith)) ∙ take_more (b ∷ bs) (length bs) 0 (omega arith)
@@ -59,7 +59,7 @@ cond_then false x f e = absurd (none-some f e)
 parted : (i : ℕ) (xs : List ℕ) → i < length xs → xs ≡ take i xs ++ (slice_index xs i ∷ drop (suc i) xs)
 parted i xs within = sym (set-get_or xs i 0) ∙ set_split xs i (slice_index xs i) within
 
-sound_write : (fields : List ℕ) (f : Form) → as_write fields ≡ Some f → (well_formed f ≡ true) × (line_text f ≡ 119 ∷ 44 ∷ (fields ++ line_feed))
+sound_write : (fields : List ℕ) (f : Form) → as_write fields ≡ Some f → IsLineOf f (119 ∷ 44 ∷ (fields ++ line_feed))
 sound_write fields f read =
     let fits = cond_then (length fields == 17 && slice_index fields 8 == 44) (form_if (is_hex_field (take 8 fields) && is_hex_field (drop 9 fields)) (write (take 8 fields) (drop 9 fields))) f read in
     let marks = and_parts (length fields == 17) (slice_index fields 8 == 44) fits.0 in
@@ -70,14 +70,14 @@ sound_write fields f read =
       ap line_text (sym good.1) ∙ ap (λ xs. 119 ∷ 44 ∷ xs) (sym (append_assoc (take 8 fields) (44 ∷ drop 9 fields) line_feed) ∙ ap (λ xs. xs ++ line_feed) (sym apart)),
     )
 
--- a number behind the letter `mark`
+-- a number after the letter `mark`
 sound_number : (mark : ℕ) (good : Bool) (g f : Form) (letter : ℕ) (fields : List ℕ) → letter ≡ mark → well_formed g ≡ good → line_text g ≡ mark ∷ 44 ∷ (fields ++ line_feed) → form_if good g ≡ Some f
-    → (well_formed f ≡ true) × (line_text f ≡ letter ∷ 44 ∷ (fields ++ line_feed))
+    → IsLineOf f (letter ∷ 44 ∷ (fields ++ line_feed))
 sound_number mark good g f letter fields is by text read =
     let found = cond_some good g f read in
     (subst (λ f. well_formed f ≡ true) found.1 (by ∙ found.0), ap line_text (sym found.1) ∙ text ∙ ap (λ x. x ∷ 44 ∷ (fields ++ line_feed)) (sym is))
 
-sound_by : (letter : ℕ) (fields : List ℕ) (f : Form) → form_by letter fields ≡ Some f → (well_formed f ≡ true) × (line_text f ≡ letter ∷ 44 ∷ (fields ++ line_feed))
+sound_by : (letter : ℕ) (fields : List ℕ) (f : Form) → form_by letter fields ≡ Some f → IsLineOf f (letter ∷ 44 ∷ (fields ++ line_feed))
 sound_by letter fields f read = by_write (letter == 119) refl
   where
     register_after : Option Form
@@ -86,13 +86,13 @@ sound_by letter fields f read = by_write (letter == 119) refl
     run_after : Option Form
     run_after = cond (letter == 103) (as_run fields) register_after
 
-    by_run : (t : Bool) → (letter == 103) ≡ t → cond t (as_run fields) register_after ≡ Some f → (well_formed f ≡ true) × (line_text f ≡ letter ∷ 44 ∷ (fields ++ line_feed))
+    by_run : (t : Bool) → (letter == 103) ≡ t → cond t (as_run fields) register_after ≡ Some f → IsLineOf f (letter ∷ 44 ∷ (fields ++ line_feed))
     by_run true e r = sound_number 103 (is_decimal_field fields) (run fields) f letter fields (eqb-true letter 103 e) refl refl r
     by_run false e r =
         let found = cond_then (letter == 114) (as_register fields) f r in
         sound_number 114 (is_decimal_field fields) (register fields) f letter fields (eqb-true letter 114 found.0) refl refl found.1
 
-    by_write : (t : Bool) → (letter == 119) ≡ t → (well_formed f ≡ true) × (line_text f ≡ letter ∷ 44 ∷ (fields ++ line_feed))
+    by_write : (t : Bool) → (letter == 119) ≡ t → IsLineOf f (letter ∷ 44 ∷ (fields ++ line_feed))
     by_write true e =
         let found = sound_write fields f (subst (λ t. cond t (as_write fields) run_after ≡ Some f) e read) in
         (found.0, found.1 ∙ ap (λ x. x ∷ 44 ∷ (fields ++ line_feed)) (sym (eqb-true letter 119 e)))
@@ -116,5 +116,5 @@ exact line = record {
       let found = cond_then (is_framed line) (form_by (slice_index line 0) (fields_of line)) f read in
       let good = sound_by (slice_index line 0) (fields_of line) f found.1 in
       (good.0, good.1 ∙ sym (framed_text line found.0));
-  complete = λ f good text. subst (λ l. form_of l ≡ Some f) text (complete f good);
+  complete = λ f is. subst (λ l. form_of l ≡ Some f) is.1 (complete f is.0);
 }

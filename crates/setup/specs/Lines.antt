@@ -34,10 +34,14 @@ well_formed (write address word) = is_hex_field address && is_hex_field word
 well_formed (run count) = is_decimal_field count
 well_formed (register number) = is_decimal_field number
 
--- a line is read as a form exactly if that is well formed and the line is its text; otherwise it is of no form
+-- a line is of a form, with its fields, if these are well formed and it is how the form is written
+abbrev pub IsLineOf : Form → List ℕ → Type 0
+IsLineOf f line = (well_formed f ≡ true) × (line_text f ≡ line)
+
+-- a line is read as a form exactly if it is of that form; otherwise as of none
 pub record Exact (line : List ℕ) (r : Option Form) : Type 0 where
-  pub sound : (f : Form) → r ≡ Some f → (well_formed f ≡ true) × (line_text f ≡ line)
-  pub complete : (f : Form) → well_formed f ≡ true → line_text f ≡ line → r ≡ Some f
+  pub sound : (f : Form) → r ≡ Some f → IsLineOf f line
+  pub complete : (f : Form) → IsLineOf f line → r ≡ Some f
 
 -- Which form a line has, found by its letter. That this is the inverse of `line_text` is the law on `SetupLine::read` (`Exact`); a
 -- reader who believes that need not read on here.

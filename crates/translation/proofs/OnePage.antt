@@ -1,5 +1,5 @@
 -- The addresses of 4 KiB are translated together.
-use Rattle.std.proofs.Common.{◌≡◌, ℕ, ◌+◌, ◌*◌, ◌/◌, ◌%◌, ◌^◌, ◌<◌, cond, ◌==◌, ◌&&◌, Some, None, Option, Ok, Err, Result, IfOk, refl, ap, subst, inl, inr, ◌∙◌, arith}
+use Rattle.std.proofs.Common.{◌≡◌, ℕ, ◌+◌, ◌*◌, ◌/◌, ◌%◌, ◌^◌, ◌<◌, cond, ◌==◌, ◌&&◌, Some, None, Option, Ok, Err, Result, IfOk, refl, sym, ap, subst, ◌⊎◌, inl, inr, ◌∙◌, arith}
 use Rattle.bus.specs.Rules.{Stands}
 use Rattle.pages.specs.declared.access_kind.AccessKind.{AccessKind}
 use Rattle.pages.specs.declared.privilege.Privilege.{Privilege}
@@ -69,15 +69,17 @@ pub whole_page : (mode : Mode) (ws : Windows) (tlb : Tlb) (kind : AccessKind) (a
     → WholePage mode ws tlb kind at (translation mode ws tlb kind at)
 whole_page mode ws tlb kind at near same = by_mode_same_page mode ws tlb kind at near same mode.translation
 
+-- what is true of 1, 2 and 4 is true of the width of an access
+pub of_width : (P : ℕ → Type 0) (w : ℕ) → (w ≡ 1) ⊎ ((w ≡ 2) ⊎ (w ≡ 4)) → P 1 → P 2 → P 4 → P w
+of_width P w (inl one) p q r = subst P (sym one) p
+of_width P w (inr (inl two)) p q r = subst P (sym two) q
+of_width P w (inr (inr four)) p q r = subst P (sym four) r
+
 -- the bytes that an aligned access names lie in one word of 4 bytes
 pub within_word : (at w i : ℕ) → Stands at w → i < w → at % 4 + i < 4
-within_word at w i (inl one, aligned) within = omega arith
-within_word at w i (inr (inl two), aligned) within =
-    let even : at % 2 ≡ 0 = subst (λ (n : ℕ). at % n ≡ 0) two aligned in
-    omega arith
-within_word at w i (inr (inr four), aligned) within =
-    let even : at % 4 ≡ 0 = subst (λ (n : ℕ). at % n ≡ 0) four aligned in
-    omega arith
+within_word at w i stands =
+    of_width (λ n. at % n ≡ 0 → i < n → at % 4 + i < 4) w stands.0
+    (λ aligned within. omega arith) (λ aligned within. omega arith) (λ aligned within. omega arith) stands.1
 
 -- an aligned access is translated byte by byte as at its address
 pub stays_in_page : (mode : Mode) (ws : Windows) (tlb : Tlb) (kind : AccessKind) (at w i p mat : ℕ) → Stands at w → i < w
