@@ -1,4 +1,4 @@
-// A field of an instruction word: a number of N bits, neither extended nor scaled. That of B and BL stands in the word in two parts and is put together here.
+// A field of an instruction word: a number of N bits, neither extended nor scaled. That of B and BL, which stands in the word in two parts, is put together.
 ghost use Rattle.std.specs.Prelude.{◌≡◌, ◌^◌, ◌<◌};
 
 #[derive(Clone, Copy, PartialEq, Eq, Debug)]

@@ -3,7 +3,6 @@ use Rattle.std.specs.Prelude.{ℕ, Bool, true, false, cond, nat_lt, Some, None, 
 use Rattle.bus.specs.Memory.{Memory}
 use Rattle.isa.specs.Fields.{reg_of}
 use Rattle.tlb.specs.declared.entry.Entry.{Entry}
-use Rattle.tlb.specs.declared.table.TheConstants.{ENTRIES}
 use Rattle.tlb.specs.Searching.{entry}
 use Rattle.control.specs.declared.number.Csr.{Csr}
 use Rattle.control.specs.Numbers.{csr_numbered}
@@ -40,7 +39,7 @@ abbrev pub control_register_read : State → ℕ → Result ℕ CallRefusal
 control_register_read s number = csr_read_out s (csr_numbered number)
 
 abbrev pub tlb_entry_read : State → ℕ → Result Entry CallRefusal
-tlb_entry_read s number = cond (nat_lt number ENTRIES) (Ok (entry s.tlb number)) (Err NoTlbEntry)
+tlb_entry_read s number = cond (nat_lt number 16) (Ok (entry s.tlb number)) (Err NoTlbEntry)
 
 abbrev pub closed : State → ClosedCore
 closed s = record { pc = s.user.pc; counter = s.registers.timer.counter }
